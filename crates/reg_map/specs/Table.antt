@@ -1,0 +1,27 @@
+-- The table of registers (Microsoft, "Overview of ARM64EC ABI conventions").
+use Rattle.std.specs.Prelude.{◌≡◌, ℕ, ◌⊎◌}
+use Rattle.reg_map.specs.declared.registers.X64Reg.{X64Reg}
+use Rattle.reg_map.specs.declared.registers.X64Reg.TheVariants.{Rax, Rcx, Rdx, Rbx, Rsp, Rbp, Rsi, Rdi, R8, R9, R10, R11, R12, R13, R14, R15}
+
+-- the number of the Arm64 register that holds an x64 register; 31 is sp
+abbrev pub arm_number : X64Reg → ℕ
+arm_number Rax = 8
+arm_number Rcx = 0
+arm_number Rdx = 1
+arm_number Rbx = 27
+arm_number Rsp = 31
+arm_number Rbp = 29
+arm_number Rsi = 25
+arm_number Rdi = 26
+arm_number R8 = 2
+arm_number R9 = 3
+arm_number R10 = 4
+arm_number R11 = 5
+arm_number R12 = 19
+arm_number R13 = 20
+arm_number R14 = 21
+arm_number R15 = 22
+
+-- the six registers that EC code does not name
+abbrev pub IsBlocked : ℕ → Type 0
+IsBlocked n = (n ≡ 13) ⊎ ((n ≡ 14) ⊎ ((n ≡ 18) ⊎ ((n ≡ 23) ⊎ ((n ≡ 24) ⊎ (n ≡ 28)))))
