@@ -1,0 +1,5 @@
+//! The command `ecc`: from its words to a report.
+#![tactic(auto)]
+
+pub mod report;
+pub mod words;
