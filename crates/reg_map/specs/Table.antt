@@ -1,5 +1,5 @@
 -- The table of registers (Microsoft, "Overview of ARM64EC ABI conventions").
-use Rattle.std.specs.Prelude.{◌≡◌, ℕ, ◌⊎◌}
+use Rattle.std.specs.Prelude.{◌≡◌, ℕ, ◌==◌, ◌⊎◌, Option, Some, None, if◌then◌else◌}
 use Rattle.reg_map.specs.declared.registers.X64Reg.{X64Reg}
 use Rattle.reg_map.specs.declared.registers.X64Reg.TheVariants.{Rax, Rcx, Rdx, Rbx, Rsp, Rbp, Rsi, Rdi, R8, R9, R10, R11, R12, R13, R14, R15}
 
@@ -21,6 +21,27 @@ arm_number R12 = 19
 arm_number R13 = 20
 arm_number R14 = 21
 arm_number R15 = 22
+
+-- the x64 register that the Arm64 register of this number holds, if it holds one
+abbrev pub x64_at : ℕ → Option X64Reg
+x64_at n =
+    if n == 0 then Some Rcx else (
+    if n == 1 then Some Rdx else (
+    if n == 2 then Some R8 else (
+    if n == 3 then Some R9 else (
+    if n == 4 then Some R10 else (
+    if n == 5 then Some R11 else (
+    if n == 8 then Some Rax else (
+    if n == 19 then Some R12 else (
+    if n == 20 then Some R13 else (
+    if n == 21 then Some R14 else (
+    if n == 22 then Some R15 else (
+    if n == 25 then Some Rsi else (
+    if n == 26 then Some Rdi else (
+    if n == 27 then Some Rbx else (
+    if n == 29 then Some Rbp else (
+    if n == 31 then Some Rsp else (
+    None))))))))))))))))
 
 -- the six registers that EC code does not name
 abbrev pub IsBlocked : ℕ → Type 0

@@ -1,7 +1,8 @@
 //! Names, numbers and values of registers.
 
-ghost use Rattle.std.specs.Prelude.{◌≡◌, ◌↔◌, IsTrue, MatchOption, ℕ, ◌≤◌, IsSome, IsNone, Some, Option};
-ghost use Rattle.reg_map.specs.Table.{arm_number, IsBlocked};
+ghost use Rattle.std.specs.Prelude.{◌≡◌, ◌≢◌, ◌↔◌, IsTrue, ◌≤◌, IsNone, Option};
+ghost use Rattle.reg_map.specs.declared.registers.X64Reg.{X64Reg};
+ghost use Rattle.reg_map.specs.Table.{arm_number, x64_at, IsBlocked};
 
 /// An x64 general register, in the order of its number in an instruction (Intel SDM, Vol. 2, 3.1.1.1).
 #[derive(Clone, Copy, Debug, PartialEq, Eq)]
@@ -83,6 +84,48 @@ pub fn arm_of(r: X64Reg) -> A64Reg
     A64Reg(number)
 }
 
+/// The x64 register that an Arm64 register holds, if it holds one: none for the link register, for
+/// x6, x7, x9 to x12 and x15 to x17, which x64 code has no name for, and for the blocked registers.
+pub fn x64_of(r: A64Reg) -> Option<X64Reg>
+    ensures exact { (q : X64Reg) → (result ≡ Some q) ↔ (arm_number q ≡ r.0) }
+    ensures outside { IsNone result ↔ ((q : X64Reg) → arm_number q ≢ r.0) }
+    ensures value { result ≡ x64_at r.0 }
+{
+    x64_numbered(r.0)
+}
+
+fn x64_numbered(n: u8) -> Option<X64Reg>
+    ensures { result ≡ x64_at n }
+{
+    match n {
+        0 => Some(X64Reg::Rcx),
+        1 => Some(X64Reg::Rdx),
+        2 => Some(X64Reg::R8),
+        3 => Some(X64Reg::R9),
+        4 => Some(X64Reg::R10),
+        5 => Some(X64Reg::R11),
+        8 => Some(X64Reg::Rax),
+        19 => Some(X64Reg::R12),
+        20 => Some(X64Reg::R13),
+        21 => Some(X64Reg::R14),
+        22 => Some(X64Reg::R15),
+        25 => Some(X64Reg::Rsi),
+        26 => Some(X64Reg::Rdi),
+        27 => Some(X64Reg::Rbx),
+        29 => Some(X64Reg::Rbp),
+        31 => Some(X64Reg::Rsp),
+        _ => None,
+    }
+}
+
+/// Whether Arm64EC code must not name this register: x13, x14, x23, x24 and x28 have no place in
+/// the x64 context, and x18 is the platform's (Microsoft, "Overview of ARM64EC ABI conventions").
+pub fn is_blocked(r: A64Reg) -> bool
+    ensures { IsTrue result ↔ IsBlocked r.0 }
+{
+    matches!(r.0, 13 | 14 | 18 | 23 | 24 | 28)
+}
+
 impl Cpu {
     ghost use Rattle.reg_map.specs.Registers.{registers_of, with_x64, with_number, x64_value};
 
@@ -118,5 +161,87 @@ impl Cpu {
         } else {
             self.x[n as usize] = v;
         }
+    }
+}
+
+#[cfg(test)]
+mod tests {
+    use super::*;
+
+    // The register mapping of Microsoft's page, by Arm64 number; the last column says that
+    // Arm64EC code must not use the register.
+    const TABLE: [(u8, Option<X64Reg>, bool); 32] = [
+        (0, Some(X64Reg::Rcx), false),
+        (1, Some(X64Reg::Rdx), false),
+        (2, Some(X64Reg::R8), false),
+        (3, Some(X64Reg::R9), false),
+        (4, Some(X64Reg::R10), false),
+        (5, Some(X64Reg::R11), false),
+        (6, None, false),
+        (7, None, false),
+        (8, Some(X64Reg::Rax), false),
+        (9, None, false),
+        (10, None, false),
+        (11, None, false),
+        (12, None, false),
+        (13, None, true),
+        (14, None, true),
+        (15, None, false),
+        (16, None, false),
+        (17, None, false),
+        (18, None, true),
+        (19, Some(X64Reg::R12), false),
+        (20, Some(X64Reg::R13), false),
+        (21, Some(X64Reg::R14), false),
+        (22, Some(X64Reg::R15), false),
+        (23, None, true),
+        (24, None, true),
+        (25, Some(X64Reg::Rsi), false),
+        (26, Some(X64Reg::Rdi), false),
+        (27, Some(X64Reg::Rbx), false),
+        (28, None, true),
+        (29, Some(X64Reg::Rbp), false),
+        (30, None, false),
+        (31, Some(X64Reg::Rsp), false),
+    ];
+
+    #[test]
+    fn maps_registers(rt: HostRuntime) {
+        for (number, held, blocked) in TABLE {
+            let register = A64Reg(number);
+            assert!(rt; x64_of(register) == held, "at {number}");
+            assert!(rt; is_blocked(register) == blocked, "at {number}");
+            if let Some(x64) = held {
+                assert!(rt; arm_of(x64) == register, "at {number}");
+            }
+        }
+        assert!(rt; x64_of(A64Reg(32)).is_none());
+    }
+
+    #[test]
+    fn sets_registers(rt: HostRuntime) {
+        let xf = XFlags {
+            cf: false,
+            zf: false,
+            sf: false,
+            of: false,
+        };
+        let af = AFlags {
+            n: false,
+            z: false,
+            c: false,
+            v: false,
+        };
+        let mut cpu = Cpu {
+            x: [7; 31],
+            sp: 9,
+            pc: 11,
+            xf,
+            af,
+        };
+        cpu.set64(X64Reg::Rsp, 32);
+        cpu.set64(X64Reg::Rax, 33);
+        assert_eq!(rt; (cpu.sp, cpu.x[8], cpu.x[0], cpu.pc), (32, 33, 7, 11));
+        assert_eq!(rt; (cpu.get64(X64Reg::Rsp), cpu.get64(X64Reg::Rax)), (32, 33));
     }
 }

@@ -1,0 +1,5 @@
+pub mod Streams
+pub mod Files
+pub mod Faults
+pub mod Bounded
+pub mod MemFiles
