@@ -3,6 +3,8 @@ use Rattle.std.specs.Prelude.{ℕ, ◌+◌, ◌-◌, ◌*◌, ◌^◌, ◌==◌,
 use Rattle.hx_mem.specs.Space.{Space}
 use Rattle.hx_mem.specs.Segments.{Segment}
 use Rattle.hx_mem.specs.declared.memory.GuardRange.{GuardRange}
+use Rattle.flat_machine.specs.declared.service.Service.{Service}
+use Rattle.flat_machine.specs.declared.service.Service.TheVariants.{PutByte, GetByte, ExitGuest, TrapGuest}
 use Rattle.reg_map.specs.Registers.{Registers}
 use Rattle.reg_map.specs.declared.registers.XFlags.{XFlags}
 use Rattle.reg_map.specs.declared.registers.AFlags.{AFlags}
@@ -21,13 +23,7 @@ stack_size = 1048576
 abbrev pub guard_size : ℕ
 guard_size = 16777216
 
--- the services that x64 code calls, each at its address
-pub data Service : Type 0 where
-  PutByte : Service
-  GetByte : Service
-  ExitGuest : Service
-  TrapGuest : Service
-
+-- the services that x64 code calls stand from here on, each at its address
 abbrev pub services_base : ℕ
 services_base = 0x7FFF00000000
 

@@ -1,3 +1,5 @@
 pub mod Layout
 pub mod Steps
 pub mod Runs
+pub mod Answers
+pub mod States
