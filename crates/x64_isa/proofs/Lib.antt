@@ -1,0 +1,5 @@
+pub mod Bytes
+pub mod FieldLaws
+pub mod Readers
+pub mod Forms
+pub mod Exact
