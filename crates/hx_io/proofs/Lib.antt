@@ -1,1 +1,4 @@
 pub mod BoundedLaws
+pub mod FaultLaws
+pub mod StreamLaws
+pub mod FileLaws

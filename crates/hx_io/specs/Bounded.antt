@@ -1,5 +1,5 @@
 -- A sink in memory that takes no more bytes than it has room for.
-use Rattle.std.specs.Prelude.{◌≡◌, ℕ, ◌+◌, ◌≤◌, List, ◌++◌, length, take, Bool, not, nat_le, Result, is_ok}
+use Rattle.std.specs.Prelude.{◌≡◌, ℕ, ◌+◌, List, ◌++◌, length, take, Bool, not, nat_le, Result, is_ok}
 use Rattle.hx_io.specs.declared.outside.Failed.{Failed}
 use Rattle.hx_io.specs.Faults.{counted}
 

@@ -3,3 +3,4 @@ pub mod Files
 pub mod Faults
 pub mod Bounded
 pub mod MemFiles
+pub mod Plan

@@ -8,10 +8,16 @@
 //! at chosen calls, and `StdSource`, `StdSink` and `FileStore` are over the system's streams and files.
 #![tactic(auto)]
 
+mod failing;
+mod faults;
 mod mem_store;
 mod mem_streams;
 mod outside;
+mod schedule;
+mod system;
 
+pub use failing::{FailSink, FailSource, FailStore};
 pub use mem_store::MemStore;
 pub use mem_streams::{MemSink, MemSource};
 pub use outside::{Failed, Found, Sink, Source, Store, StoreFail};
+pub use system::{FileStore, StdSink, StdSource};

@@ -61,6 +61,7 @@ impl Store for MemStore {
 
     fn save(&mut self, alloc: Global, name: &str, bytes: &[u8]) -> Result<(), StoreFail>
         ensures exact { SavesWhole (files_of self.old) name.now bytes.now result (files_of self.new) }
+        ensures never_fails { IsOkUnless result StoreFail.NoMemory }
     {
         let name = String::from_str(alloc, name).map_err(|_| StoreFail::NoMemory)?;
         let bytes = Vec::from_slice(alloc, bytes).map_err(|_| StoreFail::NoMemory)?;

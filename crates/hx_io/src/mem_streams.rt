@@ -5,6 +5,7 @@ ghost use Rattle.hx_io.specs.Streams.{Takes, Puts};
 ghost use Rattle.hx_io.specs.Files.{SameFiles, SameButAt, Finds, IsWithin, Saves};
 ghost use Rattle.hx_io.specs.Bounded.{BoundedPut};
 
+use crate::faults::faults_after;
 use crate::outside::{Failed, Found, Sink, Source, Store, StoreFail};
 use std::alloc::{AllocError, Global};
 use std::collections::BTreeMap;
@@ -125,7 +126,7 @@ impl Sink for MemSink {
             return Ok(());
         }
         self.bytes.extend_from_slice(&piece[..left]).unwrap();
-        self.faults = self.faults.saturating_add(1);
+        self.faults = faults_after(self.faults, true);
         Err(Failed)
     }
 }

@@ -1,0 +1,6 @@
+-- Each write takes at least one byte.
+use Rattle.std.proofs.Common.{length}
+use Rattle.hx_io.proofs.system.write_whole.Given as goal
+
+abbrev pub decreases-loop-rest : goal.decreases-loop-rest
+decreases-loop-rest g l = length l.rest
