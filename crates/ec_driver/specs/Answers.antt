@@ -1,5 +1,5 @@
 -- What a call of `ecc` answers, and what stands after it.
-use Rattle.std.specs.Prelude.{◌≡◌, ℕ, ◌+◌, ◌*◌, ◌%◌, ◌≤◌, ◌<◌, Bool, IsTrue, List, ◌++◌, length, map, Option, Some, None, ◌⊎◌}
+use Rattle.std.specs.Prelude.{◌≡◌, ℕ, ◌+◌, ◌*◌, ◌%◌, ◌≤◌, ◌<◌, Bool, IsTrue, List, ◌++◌, length, map, Option, Some, None, MatchOption, ◌⊎◌}
 use Rattle.hx_words.specs.Counts.{Rose}
 use Rattle.hx_io.specs.Streams.{AppendsPrefix}
 use Rattle.hx_io.specs.Files.{Files, SameFiles, SameButAt, HoldsOldOrPrefix}
@@ -94,30 +94,34 @@ pub record HasImage (files : StoreCall) (names : Names) : Type 0 where
   pub built : IsBuilt files names image puts status
   pub saved : IsSaved files names image
 
--- What stands after each report that the command has of its own, before its line is told.
-abbrev pub Stands : List (List ℕ) → StoreCall → SinkCall → Report → Type 0
--- the words are no command; nothing was done
-Stands words files output Usage = (command_of words ≡ None) × NothingSaved files × (output.after ≡ output.before)
+-- What stands after each report that the command `exec` with these names has of its own.
+abbrev pub ExecStands : Names → StoreCall → SinkCall → Report → Type 0
 -- the store answered that the unit isn't there
-Stands words files output (Missing name) = (names : Names) × (command_of words ≡ Some names) × (name.items ≡ names.unit)
-    × (IsTrue files.told → files.before names.unit ≡ None) × NothingSaved files × (output.after ≡ output.before)
+ExecStands names files output (Missing name) =
+    (name.items ≡ names.unit) × (IsTrue files.told → files.before names.unit ≡ None)
+    × NothingSaved files × (output.after ≡ output.before)
 -- the unit is too long or isn't of the first form
-Stands words files output NotBuilt = (names : Names) × (command_of words ≡ Some names)
-    × (IsTrue files.told → (source : List ℕ) × (files.before names.unit ≡ Some source) × IsNoUnit source)
+ExecStands names files output NotBuilt =
+    (IsTrue files.told → (source : List ℕ) × (files.before names.unit ≡ Some source) × IsNoUnit source)
     × NothingSaved files × (output.after ≡ output.before)
 -- the store failed, at the load or at the save
-Stands words files output StoreFault = (names : Names) × (command_of words ≡ Some names) × StoreRose files
-    × MaySave files names × (output.after ≡ output.before)
+ExecStands names files output StoreFault = StoreRose files × MaySave files names × (output.after ≡ output.before)
 -- the output failed: the image is saved, and a prefix of the output was put
-Stands words files output WriteFault = (names : Names) × (command_of words ≡ Some names) × SinkRose output
-    × (h : HasImage files names) × (IsTrue output.told → AppendsPrefix output.before (output_of h.puts) output.after)
+ExecStands names files output WriteFault = SinkRose output × (h : HasImage files names)
+    × (IsTrue output.told → AppendsPrefix output.before (output_of h.puts) output.after)
 -- memory ran out
-Stands words files output NoMemory = (names : Names) × (command_of words ≡ Some names)
-    × MaySave files names × (output.after ≡ output.before)
+ExecStands names files output NoMemory = MaySave files names × (IsTrue output.told → output.after ≡ output.before)
 -- the guest ran to its end
-Stands words files output (Guest outcome) = (names : Names) × (command_of words ≡ Some names)
-    × (h : HasImage files names) × (outcome ≡ Exit (h.status % 256))
+ExecStands names files output (Guest outcome) = (h : HasImage files names) × (outcome ≡ Exit (h.status % 256))
     × (IsTrue output.told → output.after ≡ output.before ++ output_of h.puts)
+-- these words are a command
+ExecStands names files output Usage = ⊥
+
+-- What stands after each report that a command has of its own: `Usage` exactly where the words are none.
+abbrev pub Stands : List (List ℕ) → StoreCall → SinkCall → Report → Type 0
+Stands words files output report = MatchOption (command_of words)
+    ((report ≡ Usage) × NothingSaved files × (output.after ≡ output.before))
+    (λ names. ExecStands names files output report)
 
 -- the line of a report was put, and the report given; or the sink of lines failed
 abbrev pub Tells : Report → SinkCall → Report → Type 0

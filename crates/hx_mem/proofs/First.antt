@@ -33,17 +33,17 @@ pub started_more : (rs : List Segment) (a m : ℕ) (r : Segment) → IsLaidOut r
 started_more rs a m r w h e l k lt =
     let at : (get_or rs m no_segment).start ≤ a = subst (λ q. q.start ≤ a) (e ∙ sym (get_or_default rs m no_segment r h)) l in
     ⊎_elim
-        (λ below. omega (arith, in_order rs k m no_segment w below h))
-        (λ same. let q : m ≡ k = omega arith in subst (λ j. (get_or rs j no_segment).start ≤ a) q at)
-        (cases_lt k m)
+    (λ below. omega (arith, in_order rs k m no_segment w below h))
+    (λ same. let q : m ≡ k = omega arith in subst (λ j. (get_or rs j no_segment).start ≤ a) q at)
+    (cases_lt k m)
 
 pub past_more : (rs : List Segment) (a m : ℕ) (r : Segment) → IsLaidOut rs → m < length rs → r ≡ get_or rs m r → a < r.start → AllStartPast rs a m
 past_more rs a m r w h e l k le lt =
     let at : a < (get_or rs m no_segment).start = subst (λ q. a < q.start) (e ∙ sym (get_or_default rs m no_segment r h)) l in
     ⊎_elim
-        (λ above. omega (arith, in_order rs m k no_segment w above lt))
-        (λ same. let q : m ≡ k = omega arith in subst (λ j. a < (get_or rs j no_segment).start) q at)
-        (cases_lt m k)
+    (λ above. omega (arith, in_order rs m k no_segment w above lt))
+    (λ same. let q : m ≡ k = omega arith in subst (λ j. a < (get_or rs j no_segment).start) q at)
+    (cases_lt m k)
 
 module _ (rs : List Segment) (a i : ℕ) (w : IsLaidOut rs) (by : AllStartBy rs a i) (past : AllStartPast rs a i) (d : Segment) where
   after_point : (k : ℕ) → i ≤ k → k < length rs → has (get_or rs k no_segment) a ≡ false
@@ -63,10 +63,10 @@ module _ (rs : List Segment) (a i : ℕ) (w : IsLaidOut rs) (by : AllStartBy rs 
   none_there some h e k l = ⊎_elim
       (λ lt. before_point k (omega arith) h)
       (λ ge. ⊎_elim
-          (λ lt. let same : k ≡ i - 1 = omega arith in
-              ap (λ j. has (get_or rs j no_segment) a) same ∙ ap (λ r. has r a) (get_or_default rs (i - 1) no_segment d (omega arith)) ∙ e)
-          (λ gt. after_point k gt l)
-          (cases_lt k i))
+      (λ lt. let same : k ≡ i - 1 = omega arith in
+      ap (λ j. has (get_or rs j no_segment) a) same ∙ ap (λ r. has r a) (get_or_default rs (i - 1) no_segment d (omega arith)) ∙ e)
+      (λ gt. after_point k gt l)
+      (cases_lt k i))
       (cases_lt (k + 1) i)
 
 rest_none : (r : Segment) (rs : List Segment) (a n : ℕ) → NoneBefore (r ∷ rs) a (suc n) → NoneBefore rs a n
@@ -81,8 +81,8 @@ pub put_none : (rs : List Segment) (a : ℕ) (bs : List ℕ) → region_of rs a 
 put_none [] a bs h = refl
 put_none (r ∷ rs) a bs h =
     elim (has r a) as (λ c. cond c (Some r) (region_of rs a) ≡ None → cond c (put_in r a bs ∷ rs) (r ∷ put rs a bs) ≡ r ∷ rs) [
-      true ↦ λ e. absurd (none-some _ (sym e))
-    | false ↦ λ e. ap (λ l. r ∷ l) (put_none rs a bs e)
+      | true ↦ λ e. absurd (none-some _ (sym e))
+      | false ↦ λ e. ap (λ l. r ∷ l) (put_none rs a bs e)
     ] h
 
 -- the region at a place has it
@@ -101,16 +101,16 @@ pub read_of_region : (rs : List Segment) (a n : ℕ) (r : Segment) → region_of
 read_of_region [] a n r e = absurd (none-some _ e)
 read_of_region (s ∷ rs) a n r e =
     elim (has s a) as (λ c. cond c (Some s) (region_of rs a) ≡ Some r → cond c (read_in s a n) (read rs a n) ≡ read_in r a n) [
-      true ↦ λ q. ap (λ t. read_in t a n) (same_Some _ _ q)
-    | false ↦ λ q. read_of_region rs a n r q
+      | true ↦ λ q. ap (λ t. read_in t a n) (same_Some _ _ q)
+      | false ↦ λ q. read_of_region rs a n r q
     ] e
 
 pub read_of_none : (rs : List Segment) (a n : ℕ) → region_of rs a ≡ None → read rs a n ≡ None
 read_of_none [] a n e = refl
 read_of_none (s ∷ rs) a n e =
     elim (has s a) as (λ c. cond c (Some s) (region_of rs a) ≡ None → cond c (read_in s a n) (read rs a n) ≡ None) [
-      true ↦ λ q. absurd (none-some _ (sym q))
-    | false ↦ λ q. read_of_none rs a n q
+      | true ↦ λ q. absurd (none-some _ (sym q))
+      | false ↦ λ q. read_of_none rs a n q
     ] e
 
 -- what the code makes of a place that it found, at any default

@@ -28,11 +28,11 @@ part-splice xs bs j k i h l =
     let e : i + length bs + n ≡ k = omega arith in
     let same : j + i + length bs ≡ j + (i + length bs) = omega arith in
     let left : take k (drop j (take (j + i) xs ++ (bs ++ tail))) ≡ take i (drop j xs) ++ (bs ++ take n tail) =
-        ap (take k) (drop-append-le j (take (j + i) xs) (bs ++ tail) long ∙ ap (λ t. t ++ (bs ++ tail)) front)
-        ∙ take_past (take i (drop j xs)) (bs ++ tail) (length bs + n) k (omega arith)
-        ∙ ap (λ t. take i (drop j xs) ++ t) (take_past bs tail n (length bs + n) refl) in
+    ap (take k) (drop-append-le j (take (j + i) xs) (bs ++ tail) long ∙ ap (λ t. t ++ (bs ++ tail)) front)
+    ∙ take_past (take i (drop j xs)) (bs ++ tail) (length bs + n) k (omega arith)
+    ∙ ap (λ t. take i (drop j xs) ++ t) (take_past bs tail n (length bs + n) refl) in
     let cut : drop (i + length bs) (take k (drop j xs)) ≡ take n tail =
-        ap (λ m. drop (i + length bs) (take m (drop j xs))) (sym e) ∙ drop-take (i + length bs) n (drop j xs) ∙ ap (take n) (drop-drop (i + length bs) j xs ∙ ap (λ m. drop m xs) (sym same)) in
+    ap (λ m. drop (i + length bs) (take m (drop j xs))) (sym e) ∙ drop-take (i + length bs) n (drop j xs) ∙ ap (take n) (drop-drop (i + length bs) j xs ∙ ap (λ m. drop m xs) (sym same)) in
     left ∙ sym (ap (λ t. t ++ (bs ++ drop (i + length bs) (take k (drop j xs)))) (take-take i k (drop j xs) (omega arith)) ∙ ap (λ t. take i (drop j xs) ++ (bs ++ t)) cut)
 
 -- bytes written inside a stretch
@@ -40,21 +40,20 @@ pub read-put_inside : (rs : List Segment) (a k i : ℕ) (bs xs : List ℕ) → I
 read-put_inside [] a k i bs xs w e r p l = absurd (none-some xs e)
 read-put_inside (r ∷ rs) a k i bs xs w e wr p l = ⊎_elim
     (λ h. let f = read_fits r a k xs (sym (cond-true _ _ _ h) ∙ e) in
-        let q = has-true r a h in
-        let wk : writable_in r a k ≡ true = sym (cond-true _ _ _ h) ∙ wr in
-        let ha = has_from r (a + i) (omega (arith, q)) (omega (arith, f.0)) in
-        let wi = writable_in_within r a k i (length bs) wk l in
-        let off : a + i - r.start ≡ a - r.start + i = omega (arith, q) in
-        ap (λ c. read (cond c (put_in r (a + i) bs ∷ rs) (r ∷ put rs (a + i) bs)) a k) ha
-        ∙ cond-true _ _ _ (has-put_in r (a + i) bs ha a ∙ h)
-        ∙ read_from (put_in r (a + i) bs) a k (omega (arith, length-bytes_after r (a + i) bs ha, f.0))
-        ∙ ap Some (ap (λ l. take k (drop (a - r.start) l)) (bytes_if r (a + i) bs ha wi ∙ ap (λ o. splice r.bytes o bs) off)
-            ∙ part-splice r.bytes bs (a - r.start) k i (omega (arith, q, f.0)) l
-            ∙ ap (λ t. splice t i bs) f.1))
+    let q = has-true r a h in
+    let wk : writable_in r a k ≡ true = sym (cond-true _ _ _ h) ∙ wr in
+    let ha = has_from r (a + i) (omega (arith, q)) (omega (arith, f.0)) in
+    let wi = writable_in_within r a k i (length bs) wk l in
+    let off : a + i - r.start ≡ a - r.start + i = omega (arith, q) in
+    ap (λ c. read (cond c (put_in r (a + i) bs ∷ rs) (r ∷ put rs (a + i) bs)) a k) ha
+    ∙ cond-true _ _ _ (has-put_in r (a + i) bs ha a ∙ h)
+    ∙ read_from (put_in r (a + i) bs) a k (omega (arith, length-bytes_after r (a + i) bs ha, f.0))
+    ∙ ap Some (ap (λ l. take k (drop (a - r.start) l)) (bytes_if r (a + i) bs ha wi ∙ ap (λ o. splice r.bytes o bs) off)
+    ∙ part-splice r.bytes bs (a - r.start) k i (omega (arith, q, f.0)) l
+    ∙ ap (λ t. splice t i bs) f.1))
     (λ h. let e' = sym (cond-false _ _ _ h) ∙ e in
-        let ha = below_read r rs a k i xs w.1.0 e' in
-        ap (λ c. read (cond c (put_in r (a + i) bs ∷ rs) (r ∷ put rs (a + i) bs)) a k) ha
-        ∙ cond-false _ _ _ h
-        ∙ read-put_inside rs a k i bs xs w.1.1 e' (sym (cond-false _ _ _ h) ∙ wr) p l)
+    let ha = below_read r rs a k i xs w.1.0 e' in
+    ap (λ c. read (cond c (put_in r (a + i) bs ∷ rs) (r ∷ put rs (a + i) bs)) a k) ha
+    ∙ cond-false _ _ _ h
+    ∙ read-put_inside rs a k i bs xs w.1.1 e' (sym (cond-false _ _ _ h) ∙ wr) p l)
     (cases_Bool (has r a))
-

@@ -4,3 +4,4 @@ pub mod Within
 pub mod Inside
 pub mod First
 pub mod Stored
+pub mod Places

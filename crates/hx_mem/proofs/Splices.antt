@@ -67,6 +67,6 @@ pub AreBytes-bytes_after : (r : Segment) (a : ℕ) (bs : List ℕ) → AreBytes 
 unfolding bytes_after
 AreBytes-bytes_after r a bs h g =
     elim (writable_in r a (length bs)) as (λ c. AreBytes (cond c (splice r.bytes (a - r.start) bs) r.bytes)) [
-      true ↦ AreBytes-splice r.bytes (a - r.start) bs h g
-    | false ↦ h
+      | true ↦ AreBytes-splice r.bytes (a - r.start) bs h g
+      | false ↦ h
     ]

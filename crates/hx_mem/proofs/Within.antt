@@ -43,13 +43,13 @@ pub read_within : (rs : List Segment) (a k i n : ℕ) (xs : List ℕ) → IsLaid
 read_within [] a k i n xs w e p l = absurd (none-some xs e)
 read_within (r ∷ rs) a k i n xs w e p l = ⊎_elim
     (λ h. let f = read_fits r a k xs (sym (cond-true _ _ _ h) ∙ e) in
-        let q = has-true r a h in
-        let off : a - r.start + i ≡ a + i - r.start = omega (arith, q) in
-        cond-true _ _ _ (has_from r (a + i) (omega (arith, q)) (omega (arith, f.0)))
-        ∙ read_from r (a + i) n (omega (arith, f.0))
-        ∙ ap Some (ap (λ o. take n (drop o r.bytes)) (sym off) ∙ sym (part_of_part r.bytes (a - r.start) i n k l) ∙ ap (λ q. take n (drop i q)) f.1))
+    let q = has-true r a h in
+    let off : a - r.start + i ≡ a + i - r.start = omega (arith, q) in
+    cond-true _ _ _ (has_from r (a + i) (omega (arith, q)) (omega (arith, f.0)))
+    ∙ read_from r (a + i) n (omega (arith, f.0))
+    ∙ ap Some (ap (λ o. take n (drop o r.bytes)) (sym off) ∙ sym (part_of_part r.bytes (a - r.start) i n k l) ∙ ap (λ q. take n (drop i q)) f.1))
     (λ h. cond-false _ _ _ (below_read r rs a k i xs w.1.0 (sym (cond-false _ _ _ h) ∙ e))
-        ∙ read_within rs a k i n xs w.1.1 (sym (cond-false _ _ _ h) ∙ e) p l)
+    ∙ read_within rs a k i n xs w.1.1 (sym (cond-false _ _ _ h) ∙ e) p l)
     (cases_Bool (has r a))
 
 pub writable_in_within : (r : Segment) (a k i n : ℕ) → writable_in r a k ≡ true → i + n ≤ k → writable_in r (a + i) n ≡ true
@@ -63,10 +63,10 @@ pub writable_within : (rs : List Segment) (a k i n : ℕ) → IsLaidOut rs → w
 writable_within [] a k i n w e p l = absurd (false≢true e)
 writable_within (r ∷ rs) a k i n w e p l = ⊎_elim
     (λ h. let f = sym (cond-true _ _ _ h) ∙ e in
-        cond-true _ _ _ (has_from r (a + i) (omega (arith, has-true r a h)) (omega (arith, writable_fits r a k f)))
-        ∙ writable_in_within r a k i n f l)
+    cond-true _ _ _ (has_from r (a + i) (omega (arith, has-true r a h)) (omega (arith, writable_fits r a k f)))
+    ∙ writable_in_within r a k i n f l)
     (λ h. cond-false _ _ _ (below_writable r rs a k i w.1.0 (sym (cond-false _ _ _ h) ∙ e))
-        ∙ writable_within rs a k i n w.1.1 (sym (cond-false _ _ _ h) ∙ e) p l)
+    ∙ writable_within rs a k i n w.1.1 (sym (cond-false _ _ _ h) ∙ e) p l)
     (cases_Bool (has r a))
 
 -- what may be written may be read
@@ -82,7 +82,7 @@ pub length-read : (rs : List Segment) (a n : ℕ) (xs : List ℕ) → read rs a 
 length-read [] a n xs e = absurd (none-some xs e)
 length-read (r ∷ rs) a n xs e = ⊎_elim
     (λ h. let f = read_fits r a n xs (sym (cond-true _ _ _ h) ∙ e) in
-        sym (ap length f.1) ∙ length-take-le n (drop (a - r.start) r.bytes) (omega (arith, length-drop (a - r.start) r.bytes, f.0, has-true r a h)))
+    sym (ap length f.1) ∙ length-take-le n (drop (a - r.start) r.bytes) (omega (arith, length-drop (a - r.start) r.bytes, f.0, has-true r a h)))
     (λ h. length-read rs a n xs (sym (cond-false _ _ _ h) ∙ e))
     (cases_Bool (has r a))
 
@@ -94,8 +94,8 @@ IsBelow-put : (r : Segment) (rs : List Segment) (a : ℕ) (bs : List ℕ) → Is
 IsBelow-put r [] a bs d = d
 IsBelow-put r (s ∷ rs) a bs d =
     elim (has s a) as (λ c. IsBelow r (cond c (put_in s a bs ∷ rs) (s ∷ put rs a bs))) [
-      true ↦ d
-    | false ↦ (d.0, IsBelow-put r rs a bs d.1)
+      | true ↦ d
+      | false ↦ (d.0, IsBelow-put r rs a bs d.1)
     ]
 
 pub IsBelow-same_end : (r q : Segment) (rs : List Segment) → end_of q ≡ end_of r → IsBelow r rs → IsBelow q rs
@@ -113,6 +113,6 @@ pub IsLaidOut-put : (rs : List Segment) (a : ℕ) (bs : List ℕ) → AreBytes b
 IsLaidOut-put [] a bs g w = w
 IsLaidOut-put (r ∷ rs) a bs g w =
     elim (has r a) as (λ c. has r a ≡ c → IsLaidOut (cond c (put_in r a bs ∷ rs) (r ∷ put rs a bs))) [
-      true ↦ λ h. (IsPlaced-put_in r a bs h g w.0, (IsBelow-same_end r (put_in r a bs) rs (same_end r a bs h) w.1.0, w.1.1))
-    | false ↦ λ h. (w.0, (IsBelow-put r rs a bs w.1.0, IsLaidOut-put rs a bs g w.1.1))
+      | true ↦ λ h. (IsPlaced-put_in r a bs h g w.0, (IsBelow-same_end r (put_in r a bs) rs (same_end r a bs h) w.1.0, w.1.1))
+      | false ↦ λ h. (w.0, (IsBelow-put r rs a bs w.1.0, IsLaidOut-put rs a bs g w.1.1))
     ] refl

@@ -72,9 +72,9 @@ module _ (r : Segment) (a : ℕ) (bs : List ℕ) (at : has r a ≡ true) where
   part_apart : (b k : ℕ) → has r b ≡ true → Apart a (length bs) b k → take k (drop (b - r.start) (bytes_after r a bs)) ≡ take k (drop (b - r.start) r.bytes)
   part_apart b k hb ap_ = ⊎_elim
       (λ h. ap (λ l. take k (drop (b - r.start) l)) (bytes_if h) ∙ ⊎_elim
-          (λ l. above-splice r.bytes (a - r.start) bs (fits_in h) (b - r.start) k (omega (arith, has-true r a at, has-true r b hb)))
-          (λ l. below-splice r.bytes (a - r.start) bs (fits_in h) (b - r.start) k (omega (arith, has-true r a at, has-true r b hb)))
-          ap_)
+      (λ l. above-splice r.bytes (a - r.start) bs (fits_in h) (b - r.start) k (omega (arith, has-true r a at, has-true r b hb)))
+      (λ l. below-splice r.bytes (a - r.start) bs (fits_in h) (b - r.start) k (omega (arith, has-true r a at, has-true r b hb)))
+      ap_)
       (λ h. ap (λ l. take k (drop (b - r.start) l)) (bytes_unless h))
       (cases_Bool (writable_in r a (length bs)))
 
@@ -89,10 +89,10 @@ pub writable-put : (rs : List Segment) (a : ℕ) (bs : List ℕ) (b k : ℕ) →
 writable-put [] a bs b k = refl
 writable-put (r ∷ rs) a bs b k = ⊎_elim
     (λ h. ap (λ c. writable (cond c (put_in r a bs ∷ rs) (r ∷ put rs a bs)) b k) h
-        ∙ ap (λ c. cond c (writable_in (put_in r a bs) b k) (writable rs b k)) (has-put_in r a bs h b)
-        ∙ ap (λ w. cond (has r b) w (writable rs b k)) (writable-put_in r a bs h b k))
+    ∙ ap (λ c. cond c (writable_in (put_in r a bs) b k) (writable rs b k)) (has-put_in r a bs h b)
+    ∙ ap (λ w. cond (has r b) w (writable rs b k)) (writable-put_in r a bs h b k))
     (λ h. ap (λ c. writable (cond c (put_in r a bs ∷ rs) (r ∷ put rs a bs)) b k) h
-        ∙ ap (λ w. cond (has r b) (writable_in r b k) w) (writable-put rs a bs b k))
+    ∙ ap (λ w. cond (has r b) (writable_in r b k) w) (writable-put rs a bs b k))
     (cases_Bool (has r a))
 
 -- what was written is read back
@@ -100,11 +100,11 @@ pub read-put_same : (rs : List Segment) (a : ℕ) (bs : List ℕ) → writable r
 read-put_same [] a bs w = absurd (false≢true w)
 read-put_same (r ∷ rs) a bs w = ⊎_elim
     (λ h. ap (λ c. read (cond c (put_in r a bs ∷ rs) (r ∷ put rs a bs)) a (length bs)) h
-        ∙ cond-true _ _ _ (has-put_in r a bs h a ∙ h)
-        ∙ read-put_in_same r a bs h (sym (cond-true _ _ _ h) ∙ w))
+    ∙ cond-true _ _ _ (has-put_in r a bs h a ∙ h)
+    ∙ read-put_in_same r a bs h (sym (cond-true _ _ _ h) ∙ w))
     (λ h. ap (λ c. read (cond c (put_in r a bs ∷ rs) (r ∷ put rs a bs)) a (length bs)) h
-        ∙ cond-false _ _ _ h
-        ∙ read-put_same rs a bs (sym (cond-false _ _ _ h) ∙ w))
+    ∙ cond-false _ _ _ h
+    ∙ read-put_same rs a bs (sym (cond-false _ _ _ h) ∙ w))
     (cases_Bool (has r a))
 
 -- nothing else changes
@@ -112,13 +112,13 @@ pub read-put_apart : (rs : List Segment) (a : ℕ) (bs : List ℕ) (b k : ℕ) �
 read-put_apart [] a bs b k d = refl
 read-put_apart (r ∷ rs) a bs b k d = ⊎_elim
     (λ h. ap (λ c. read (cond c (put_in r a bs ∷ rs) (r ∷ put rs a bs)) b k) h
-        ∙ ap (λ c. cond c (read_in (put_in r a bs) b k) (read rs b k)) (has-put_in r a bs h b)
-        ∙ ⊎_elim
-            (λ hb. cond-true _ _ _ hb ∙ read-put_in_apart r a bs h b k hb d ∙ sym (cond-true _ _ _ hb))
-            (λ hb. cond-false _ _ _ hb ∙ sym (cond-false _ _ _ hb))
-            (cases_Bool (has r b)))
+    ∙ ap (λ c. cond c (read_in (put_in r a bs) b k) (read rs b k)) (has-put_in r a bs h b)
+    ∙ ⊎_elim
+    (λ hb. cond-true _ _ _ hb ∙ read-put_in_apart r a bs h b k hb d ∙ sym (cond-true _ _ _ hb))
+    (λ hb. cond-false _ _ _ hb ∙ sym (cond-false _ _ _ hb))
+    (cases_Bool (has r b)))
     (λ h. ap (λ c. read (cond c (put_in r a bs ∷ rs) (r ∷ put rs a bs)) b k) h
-        ∙ ap (λ w. cond (has r b) (read_in r b k) w) (read-put_apart rs a bs b k d))
+    ∙ ap (λ w. cond (has r b) (read_in r b k) w) (read-put_apart rs a bs b k d))
     (cases_Bool (has r a))
 
 -- the code is not written: a region that may be written has none
@@ -130,8 +130,8 @@ pub code_of-put : (rs : List Segment) (a : ℕ) (bs : List ℕ) (b k : ℕ) → 
 code_of-put [] a bs b k = refl
 code_of-put (r ∷ rs) a bs b k = ⊎_elim
     (λ h. ap (λ c. code_of (cond c (put_in r a bs ∷ rs) (r ∷ put rs a bs)) b k) h
-        ∙ ap (λ c. cond c (code_in (put_in r a bs) b k) (code_of rs b k)) (has-put_in r a bs h b)
-        ∙ ap (λ w. cond (has r b) w (code_of rs b k)) (code_in-put_in r a bs b k))
+    ∙ ap (λ c. cond c (code_in (put_in r a bs) b k) (code_of rs b k)) (has-put_in r a bs h b)
+    ∙ ap (λ w. cond (has r b) w (code_of rs b k)) (code_in-put_in r a bs b k))
     (λ h. ap (λ c. code_of (cond c (put_in r a bs ∷ rs) (r ∷ put rs a bs)) b k) h
-        ∙ ap (λ w. cond (has r b) (code_in r b k) w) (code_of-put rs a bs b k))
+    ∙ ap (λ w. cond (has r b) (code_in r b k) w) (code_of-put rs a bs b k))
     (cases_Bool (has r a))

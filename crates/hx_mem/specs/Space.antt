@@ -2,7 +2,6 @@
 -- an image have them (PE/COFF, section flags; Intel SDM volume 3, 4.6), and what a load, a store and a
 -- fetch make of them.
 use Rattle.std.specs.Prelude.{◌≡◌, ℕ, ◌+◌, ◌-◌, ◌^◌, ◌≤◌, ◌<◌, ◌⊎◌, min, max, Bool, true, false, not, ◌&&◌, nat_le, nat_lt, if◌then◌else◌, List, [], ◌∷◌, ◌++◌, length, take, drop, Option, Some, None, Result, Ok, Err}
-use Rattle.std.specs.List.{list_all}
 use Rattle.hx_words.specs.LittleEndian.{number_of, bytes_of, AreBytes}
 use Rattle.hx_mem.specs.declared.fault.MemBad.{MemBad}
 use Rattle.hx_mem.specs.declared.fault.MemBad.TheVariants.{Guard, Unmapped, Protected}
@@ -129,7 +128,8 @@ misses_guard (Some g) a n = shares_none a n g.start g.length
 
 -- the n addresses from a share none with any region
 abbrev pub misses : List Segment → ℕ → ℕ → Bool
-misses rs a n = list_all (λ r. shares_none a n r.start (length r.bytes)) rs
+misses [] a n = true
+misses (r ∷ rs) a n = shares_none a n r.start (length r.bytes) && misses rs a n
 
 -- a region of n bytes may be added at a
 abbrev pub has_room : Space → ℕ → ℕ → Bool
@@ -142,7 +142,7 @@ has_room_for_guard m a n = nat_le (a + n) (2 ^ 63) && misses m.regions a n
 -- one more region, at its place in the order of starts
 abbrev pub with_region : Segment → List Segment → List Segment
 with_region r [] = r ∷ []
-with_region r (s ∷ rs) = if nat_lt s.start r.start then s ∷ with_region r rs else r ∷ (s ∷ rs)
+with_region r (s ∷ rs) = if nat_le s.start r.start then s ∷ with_region r rs else r ∷ (s ∷ rs)
 
 -- a region with no byte has no address, and is not kept
 abbrev pub after_add : Space → Segment → Space

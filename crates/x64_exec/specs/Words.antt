@@ -1,5 +1,6 @@
 -- Words of the table of effects: numbers of 64 bits, flags, and how an instruction ends.
 use Rattle.std.specs.Prelude.{ℕ, ◌+◌, ◌-◌, ◌%◌, ◌^◌, Bool, not, ◌&&◌, ◌==◌, nat_lt, nat_le, Result, Ok, Err}
+use mathlib.Core.Bool.{beq}
 use Rattle.hx_mem.specs.Space.{Space, load_of, store_of, after_store}
 use Rattle.hx_mem.specs.declared.fault.MemBad.{MemBad}
 use Rattle.reg_map.specs.declared.registers.XFlags.{XFlags}
@@ -34,7 +35,7 @@ flags_of_minus a b = record {
   cf = nat_lt a b;
   zf = minus a b == 0;
   sf = is_negative (minus a b);
-  of = not (is_negative a == is_negative b) && not (is_negative (minus a b) == is_negative a);
+  of = not (beq (is_negative a) (is_negative b)) && not (beq (is_negative (minus a b)) (is_negative a));
 }
 
 -- an instruction that did its work, of which the next one follows after len bytes

@@ -1,6 +1,7 @@
 //! One instruction.
 
 ghost use Rattle.std.specs.Prelude.{◌≡◌, ◌<◌, ◌^◌};
+ghost use Rattle.hx_words.specs.TwosComplement.{bits_of};
 ghost use Rattle.reg_map.specs.Registers.{registers_of};
 ghost use Rattle.x64_isa.specs.Spelling.{Valid};
 ghost use Rattle.x64_exec.specs.Words.{flags_of_minus, calls, minus};
@@ -15,6 +16,7 @@ use x64_isa::instruction::XInstr;
 /// Does an instruction of `len` bytes: the new registers, flags and memory, and where control goes,
 /// are those of its row. On `Next` pc is that of the next instruction, on `Branch`, `Goto`, `CallTo`
 /// and `RetTo` it is the target; after a `Fault` nothing changed. It takes no memory.
+#[tactic(auto, unfolding(crate::specs::Effects::effect_of))]
 pub fn step(cpu: &mut Cpu, mem: &mut Memory, i: &XInstr, len: u64) -> XEvent
     requires { Valid i.now }
     ensures {
@@ -30,7 +32,7 @@ pub fn step(cpu: &mut Cpu, mem: &mut Memory, i: &XInstr, len: u64) -> XEvent
         }
         XInstr::SubImm { q, imm } => {
             let a = cpu.get64(q);
-            let b = i64::from(imm).cast_unsigned();
+            let b = sign_extended(imm);
             cpu.set64(q, a.wrapping_sub(b));
             cpu.xf = minus_flags(a, b);
             cpu.pc = cpu.pc.wrapping_add(len);
@@ -38,6 +40,17 @@ pub fn step(cpu: &mut Cpu, mem: &mut Memory, i: &XInstr, len: u64) -> XEvent
         }
         XInstr::CallReg { q } => call(cpu, mem, cpu.get64(q), len),
         XInstr::Ud2 => XEvent::Fault(XFault::Halt),
+    }
+}
+
+/// The 64 bits of an immediate.
+fn sign_extended(imm: i32) -> u64
+    ensures { result ≡ bits_of 64 imm }
+{
+    if imm >= 0 {
+        imm as u64
+    } else {
+        u64::MAX - (-1 - imm) as u64
     }
 }
 
@@ -52,7 +65,7 @@ fn minus_flags(a: u64, b: u64) -> XFlags
         cf: a < b,
         zf: difference == 0,
         sf: negative,
-        of: first_negative != (b >= 1 << 63) && negative != first_negative,
+        of: (first_negative != (b >= 1 << 63)) & (negative != first_negative),
     }
 }
 

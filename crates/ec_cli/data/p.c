@@ -1,0 +1,1 @@
+int main(void){put_byte(72);put_byte(361);return 7;}
