@@ -1,2 +1,3 @@
-pub mod Stepping
-pub mod Starting
+pub mod Returns
+pub mod Places
+pub mod Running

@@ -11,7 +11,7 @@ Moves None after new = after ≡ Goes new
 Moves (Some WriteFault) after new = Unit {0}
 Moves (Some (Exit k)) after new = after ≡ Ends (Exit k)
 Moves (Some (Trap k)) after new = after ≡ Ends (Trap k)
-Moves (Some Budget) after new = after ≡ Ends Budget
+Moves (Some Budget) after new = ⊥
 Moves (Some StackSpent) after new = after ≡ Ends StackSpent
 Moves (Some (Stuck why pc)) after new = after ≡ Ends (Stuck why pc)
 

@@ -1,11 +1,12 @@
 -- Where things stand in the flat machine.
 use Rattle.std.specs.Prelude.{ℕ, ◌+◌, ◌-◌, ◌*◌, ◌^◌, ◌==◌, List, [], ◌∷◌, length, replicate, true, false, if◌then◌else◌, Option, Some, None}
-use Rattle.hx_mem.specs.Space.{Space}
+use Rattle.hx_mem.specs.Space.{Space, after_add}
 use Rattle.hx_mem.specs.Segments.{Segment}
 use Rattle.hx_mem.specs.declared.memory.GuardRange.{GuardRange}
 use Rattle.flat_machine.specs.declared.service.Service.{Service}
 use Rattle.flat_machine.specs.declared.service.Service.TheVariants.{PutByte, GetByte, ExitGuest, TrapGuest}
-use Rattle.reg_map.specs.Registers.{Registers}
+use Rattle.reg_map.specs.Registers.{Registers, registers_of}
+use Rattle.reg_map.specs.declared.registers.Cpu.{Cpu}
 use Rattle.reg_map.specs.declared.registers.XFlags.{XFlags}
 use Rattle.reg_map.specs.declared.registers.AFlags.{AFlags}
 
@@ -45,17 +46,21 @@ image_region image = record { start = image_base; bytes = image; write = false; 
 abbrev pub stack_region : Segment
 stack_region = record { start = stack_top - stack_size; bytes = zeros stack_size; write = true; exec = false }
 
+abbrev pub no_memory : Space
+no_memory = record { regions = []; guard = None }
+
+abbrev pub guard_range : GuardRange
+guard_range = record { start = stack_top - stack_size - guard_size; length = guard_size }
+
 abbrev pub start_memory : List ℕ → Space
-start_memory image = record {
-  regions = image_region image ∷ (stack_region ∷ []);
-  guard = Some (record { start = stack_top - stack_size - guard_size; length = guard_size });
-}
+start_memory image = record (after_add (after_add no_memory (image_region image)) stack_region) { guard = Some guard_range }
 
 -- at the start the stack pointer is the stack's top, pc is the image's first byte, and all else is zero
 abbrev pub start_registers : Registers
-start_registers = record {
-  value = λ n. if n == 31 then stack_top else 0;
+start_registers = registers_of (record {
+  x = replicate 31 0;
+  sp = stack_top;
   pc = image_base;
   xf = record { cf = false; zf = false; sf = false; of = false };
   af = record { n = false; z = false; c = false; v = false };
-}
+})

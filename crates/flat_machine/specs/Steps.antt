@@ -1,5 +1,6 @@
 -- One step of the flat machine.
-use Rattle.std.specs.Prelude.{ℕ, ◌+◌, ◌-◌, ◌%◌, ◌^◌, List, [], ◌∷◌, ◌&&◌, nat_lt, nat_le, if◌then◌else◌, Option, Some, None, Result, Ok, Err, result_ok}
+use Rattle.std.specs.Prelude.{ℕ, ◌+◌, ◌-◌, ◌%◌, ◌^◌, List, [], ◌∷◌, ◌&&◌, nat_lt, nat_le, if◌then◌else◌, Option, Some, None, Result, Ok, Err}
+use Rattle.std.specs.Result.{result_ok}
 use Rattle.hx_mem.specs.Space.{Space, load_of, fetch_of}
 use Rattle.hx_mem.specs.declared.fault.MemBad.{MemBad}
 use Rattle.hx_mem.specs.declared.fault.MemBad.TheVariants.{Guard, Unmapped as NotMapped, Protected as NoRight}

@@ -1,8 +1,11 @@
 //! The state of the guest, and one step of it.
 
-ghost use Rattle.std.specs.Prelude.{◌≡◌, ◌≢◌, ◌≤◌, ◌<◌, ◌^◌, ◌%◌, IsTrue, IfOk, Some, None, length};
+ghost use Rattle.std.specs.Prelude.{◌≡◌, ◌≢◌, ◌≤◌, ◌<◌, ◌^◌, ◌%◌, IsTrue, IfOk, IfSome, Some, None, length};
 ghost use Rattle.hx_words.specs.Counts.{Rose};
-ghost use Rattle.flat_machine.specs.Layout.{start_registers as start_registers_lem};
+ghost use Rattle.flat_machine.specs.Layout.{zeros, start_registers as start_registers_lem, start_memory as start_memory_lem};
+ghost use Rattle.std.specs.Result.{result_ok};
+ghost use Rattle.x64_isa.specs.Spelling.{Valid};
+ghost use Rattle.x64_isa.specs.Reading.{decode_of};
 ghost use Rattle.reg_map.specs.Registers.{registers_of, x64_value};
 ghost use Rattle.flat_machine.specs.Steps.{refusal, fault_end};
 ghost use Rattle.flat_machine.specs.Runs.{start_of};
@@ -71,23 +74,9 @@ impl Guest {
         ensures state { IfOk result (λ g. guest_of g ≡ start_of image.now) }
         ensures size { IfOk result (λ g. g.size ≡ length image.now) }
     {
-        let mut mem = Memory::new(alloc);
-        mem.add(Region {
-            start: IMAGE_BASE,
-            bytes: Vec::from_slice(alloc, image)?,
-            write: false,
-            exec: true,
-        })?;
-        mem.add(Region {
-            start: STACK_TOP - STACK_SIZE,
-            bytes: vec![in alloc; 0; STACK_SIZE as usize]?,
-            write: true,
-            exec: false,
-        })?;
-        mem.guard(STACK_TOP - STACK_SIZE - GUARD_SIZE, GUARD_SIZE);
         Ok(Guest {
             cpu: start_registers(),
-            mem,
+            mem: start_memory(alloc, image)?,
             size: image.len() as u64,
         })
     }
@@ -194,11 +183,12 @@ impl Guest {
 
     /// The instruction at pc and how many bytes it has, if one stands there.
     fn instruction(&self) -> Option<(XInstr, usize)>
-        ensures { result ≡ found_at (guest_of self.now) }
+        ensures found { result ≡ found_at (guest_of self.now) }
+        ensures valid { IfSome result (λ x. Valid x.0) }
     {
         match self.mem.fetch(self.cpu.pc, MOST_BYTES) {
             Err(_) => None,
-            Ok(bytes) => decode(bytes).ok(),
+            Ok(bytes) => instruction_in(bytes),
         }
     }
 }
@@ -224,4 +214,45 @@ fn start_registers() -> Cpu
             v: false,
         },
     }
+}
+
+/// The instruction that bytes begin with and how many bytes it has, if there is one.
+fn instruction_in(bytes: &[u8]) -> Option<(XInstr, usize)>
+    ensures found { result ≡ result_ok (decode_of bytes.now) }
+    ensures valid { IfSome result (λ x. Valid x.0) }
+{
+    match decode(bytes) {
+        Ok(found) => Some(found),
+        Err(_) => None,
+    }
+}
+
+/// So many bytes of value 0.
+#[tactic(auto, unfolding(crate::specs::Layout::zeros))]
+fn zero_bytes(alloc: Global, n: usize) -> Result<Vec<u8>, AllocError>
+    ensures items { IfOk result (λ v. v.items ≡ zeros n) }
+{
+    vec![in alloc; 0; n]
+}
+
+/// The memory at the start: the image, read and executed, the stack, read and written, and the guard.
+fn start_memory(alloc: Global, image: &[u8]) -> Result<Memory, AllocError>
+    requires { length image.now < 2 ^ 32 }
+    ensures { IfOk result (λ m. m ≡ start_memory_lem image.now) }
+{
+    let mut mem = Memory::new(alloc);
+    mem.add(Region {
+        start: IMAGE_BASE,
+        bytes: Vec::from_slice(alloc, image)?,
+        write: false,
+        exec: true,
+    })?;
+    mem.add(Region {
+        start: STACK_TOP - STACK_SIZE,
+        bytes: zero_bytes(alloc, STACK_SIZE as usize)?,
+        write: true,
+        exec: false,
+    })?;
+    mem.guard(STACK_TOP - STACK_SIZE - GUARD_SIZE, GUARD_SIZE);
+    Ok(mem)
 }
