@@ -4,7 +4,7 @@ use crate::instruction::{XBad, XInstr};
 use crate::{decode, encode};
 use reg_map::registers::X64Reg;
 
-/// `tools/x64_vectors.py` assembled these.
+/// GNU as assembled these.
 static SPELLINGS: [(XInstr, &[u8]); 15] = [
     (
         XInstr::SubImm {
