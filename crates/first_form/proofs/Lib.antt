@@ -1,2 +1,6 @@
 pub mod Counts
+pub mod Fronts
+pub mod Binds
 pub mod ScanningLaws
+pub mod NumeralLaws
+pub mod TokenLaws

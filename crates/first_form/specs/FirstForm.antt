@@ -2,22 +2,21 @@
 -- Their bytes are a list of tokens, with white space as C has it (C17, 5.1.1.2 and 6.4): it may stand before,
 -- between and after tokens and never inside one, and words that would run together have some between them.
 use Rattle.std.specs.Prelude.{◌≡◌, ℕ, ◌+◌, ◌-◌, ◌*◌, ◌<◌, ◌≤◌, ◌==◌, nat_le, Bool, true, false, ◌&&◌, ◌||◌, IsTrue, List, [], ◌∷◌, ◌++◌, length, slice_index, codes}
+use Rattle.std.specs.List.{list_all}
 
 -- a space, a tab, a carriage return or a line feed
 abbrev pub is_blank : ℕ → Bool
 is_blank b = b == 32 || b == 9 || b == 13 || b == 10
 
 abbrev pub AreBlanks : List ℕ → Type 0
-AreBlanks [] = Unit {0}
-AreBlanks (b ∷ bs) = IsTrue (is_blank b) × AreBlanks bs
+AreBlanks bytes = IsTrue (list_all is_blank bytes)
 
 -- `0` to `9`
 abbrev pub is_digit : ℕ → Bool
 is_digit b = nat_le 48 b && nat_le b 57
 
 abbrev pub AreDigits : List ℕ → Type 0
-AreDigits [] = Unit {0}
-AreDigits (b ∷ bs) = IsTrue (is_digit b) × AreDigits bs
+AreDigits text = IsTrue (list_all is_digit text)
 
 -- the number that decimal digits stand for, where those before them stand for n
 abbrev pub decimal : ℕ → List ℕ → ℕ
