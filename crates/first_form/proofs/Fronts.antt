@@ -26,7 +26,3 @@ prefix_len-append_passes p (x ∷ xs) ys h =
     let here = prefix_len-pass p x (xs ++ ys) parts.0 in
     let more = prefix_len-append_passes p xs ys parts.1 in
     omega arith
-
-pub drop-append_more : (k : ℕ) (xs ys : List ℕ) → drop (length xs + k) (xs ++ ys) ≡ drop k ys
-drop-append_more k [] ys = ap (λ n. drop n ys) (let e : length {A = ℕ} [] + k ≡ k = omega arith in e)
-drop-append_more k (x ∷ xs) ys = ap (λ n. drop n (x ∷ (xs ++ ys))) (let e : length (x ∷ xs) + k ≡ suc (length xs + k) = omega arith in e) ∙ drop-append_more k xs ys

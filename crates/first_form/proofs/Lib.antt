@@ -4,3 +4,4 @@ pub mod Binds
 pub mod ScanningLaws
 pub mod NumeralLaws
 pub mod TokenLaws
+pub mod UnitLaws

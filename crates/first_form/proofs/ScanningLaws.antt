@@ -6,10 +6,11 @@ use Rattle.std.proofs.lemmas.Bool.{cases_Bool, eq-eqb, eqb-true}
 use Rattle.std.proofs.lemmas.Bool.Decides.{nat_tests}
 use Rattle.std.proofs.lemmas.List.{take-append-drop, append-nil}
 use Rattle.std.proofs.lemmas.Option.{same_Some, none-some}
+use Rattle.std.proofs.Math.Seq.{drop-append-add}
 use lib.Pointwise.{pointwise}
 use Rattle.first_form.specs.FirstForm.{is_blank, is_digit, AreBlanks}
 use Rattle.first_form.specs.Scanning.{after_blanks, after_text}
-use Rattle.first_form.proofs.Fronts.{front_passes, prefix_len-append_passes, prefix_len-stop, drop-append_more}
+use Rattle.first_form.proofs.Fronts.{front_passes, prefix_len-append_passes, prefix_len-stop}
 
 both : {X : Type 0} (a b : Bool) (x y : X) → cond a (cond b x y) y ≡ cond (a && b) x y
 both true b x y = refl
@@ -49,7 +50,7 @@ blanks_cut bytes = sym (take-append-drop (prefix_len is_blank bytes) bytes)
 pub after_blanks-append : (gap bytes : List ℕ) → AreBlanks gap → after_blanks (gap ++ bytes) ≡ after_blanks bytes
 unfolding after_blanks
 after_blanks-append gap bytes h =
-    ap (λ n. drop n (gap ++ bytes)) (prefix_len-append_passes is_blank gap bytes h) ∙ drop-append_more (prefix_len is_blank bytes) gap bytes
+    ap (λ n. drop n (gap ++ bytes)) (prefix_len-append_passes is_blank gap bytes h) ∙ drop-append-add gap bytes (prefix_len is_blank bytes)
 
 -- nothing to skip
 pub after_blanks-solid : (b : ℕ) (bs : List ℕ) → is_blank b ≡ false → after_blanks (b ∷ bs) ≡ b ∷ bs

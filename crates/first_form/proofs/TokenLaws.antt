@@ -2,9 +2,11 @@
 use Rattle.std.proofs.Common.{◌≡◌, ℕ, suc, ◌+◌, ◌<◌, ◌≤◌, ◌&&◌, Bool, true, false, cond, eqb, ltb, List, [], ◌∷◌, ◌++◌, length, take, drop, Option, Some, None, refl, ap, sym, ◌∙◌, subst, arith, append_assoc, IsTrue, length-append, ◌⊎◌, inl, inr}
 use Rattle.std.specs.List.{list_all, prefix_len}
 use Rattle.std.proofs.lemmas.Bool.{and_parts, and_from, ltb-true, lt-ltb, false≢true}
+use Rattle.std.proofs.lemmas.List.{take-append-drop}
+use Rattle.std.proofs.Math.Seq.{take-append_seam, drop-append_seam}
 use Rattle.std.proofs.lemmas.Option.{none-some, same_Some, cond_some, some_pair_parts}
 use Rattle.first_form.specs.FirstForm.{is_blank, is_digit, AreBlanks, AreDigits, IsNumeral, Token, Word, Number, Mark, is_word, IsText, IsTokenAt}
-use Rattle.first_form.specs.Scanning.{after_blanks, after_gap, after_text, after_token, numeral_at, number_at}
+use Rattle.first_form.specs.Scanning.{◌>>=◌, after_blanks, after_gap, after_text, after_token, numeral_at, number_at}
 use Rattle.first_form.proofs.Binds.{bind_some, some_bind, unless_some, some_unless}
 use Rattle.first_form.proofs.Fronts.{front_passes, prefix_len-append_passes, prefix_len-stop}
 use Rattle.first_form.proofs.ScanningLaws.{blank_no_digit, digit_no_blank, blanks_before, blanks_pass, blanks_cut, after_blanks-append, after_blanks-solid, after_text-append, after_text_found}
@@ -96,15 +98,40 @@ numeral_solid n (b ∷ bs) h = record { first = b; others = bs; is = refl; solid
 
 pub number_found : (bytes rest : List ℕ) (n : ℕ) → number_at bytes ≡ Some (n, rest) → IsTokenAt false (Number n) bytes rest
 unfolding number_at
-number_found bytes rest n h = ?
+number_found bytes rest n h =
+    let start = after_blanks bytes in
+    let count = prefix_len is_digit start in
+    let read = bind_some _ _ (n, rest) h in
+    let parts = some_pair_parts read.0 n (drop count start) rest read.2 in
+    record {
+      gap = blanks_before bytes;
+      text = take count start;
+      whole = blanks_cut bytes ∙ ap (λ xs. blanks_before bytes ++ xs) (sym (take-append-drop count start) ∙ ap (λ xs. take count start ++ xs) parts.1);
+      blank = blanks_pass bytes;
+      apart = λ e. absurd (false≢true e);
+      spelled = numeral_found (take count start) n (read.1 ∙ ap Some parts.0) }
 
 -- no digit begins the bytes
 abbrev pub Stops : List ℕ → Type 0
 Stops rest = prefix_len is_digit rest ≡ 0
 
 pub mark_stops : (after_word : Bool) (m : ℕ) (bytes rest : List ℕ) → is_digit m ≡ false → IsTokenAt after_word (Mark m) bytes rest → Stops bytes
-mark_stops after_word m bytes rest h at = ?
+mark_stops after_word m bytes rest h at = ap (prefix_len is_digit) (at.whole ∙ ap (λ t. at.gap ++ (t ++ rest)) at.spelled) ∙ stops at.gap at.blank
+  where
+    stops : (gap : List ℕ) → AreBlanks gap → prefix_len is_digit (gap ++ (m ∷ rest)) ≡ 0
+    stops [] g = prefix_len-stop is_digit m rest h
+    stops (b ∷ bs) g = prefix_len-stop is_digit b (bs ++ (m ∷ rest)) (blank_no_digit b (and_parts (is_blank b) _ g).0)
 
 pub number_again : (after_word : Bool) (bytes rest : List ℕ) (n : ℕ) → Stops rest → IsTokenAt after_word (Number n) bytes rest → number_at bytes ≡ Some (n, rest)
 unfolding number_at
-number_again after_word bytes rest n stops at = ?
+number_again after_word bytes rest n stops at =
+    let whole : after_blanks bytes ≡ at.text ++ rest = ap after_blanks at.whole ∙ after_blanks-solid_text at.gap at.text rest at.blank (numeral_solid n at.text at.spelled) in
+    let more = prefix_len-append_passes is_digit at.text rest at.spelled.digits in
+    let count : prefix_len is_digit (at.text ++ rest) ≡ length at.text = omega arith in
+    ap (λ start. number_from (prefix_len is_digit start) start) whole
+    ∙ ap (λ k. number_from k (at.text ++ rest)) count
+    ∙ ap (λ xs. numeral_at xs >>= λ x. Some (x, drop (length at.text) (at.text ++ rest))) (take-append_seam at.text rest)
+    ∙ some_bind _ _ n _ (numeral_again at.text n at.spelled) (ap (λ xs. Some (n, xs)) (drop-append_seam at.text rest))
+  where
+    number_from : ℕ → List ℕ → Option (ℕ × List ℕ)
+    number_from k start = numeral_at (take k start) >>= λ x. Some (x, drop k start)

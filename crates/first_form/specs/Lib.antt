@@ -1,3 +1,4 @@
 pub mod FirstForm
 pub mod Scanning
 pub mod Reading
+pub mod FirstUnit

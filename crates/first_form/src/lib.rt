@@ -7,4 +7,4 @@
 mod reading;
 mod scanning;
 
-pub use reading::FirstUnit;
+pub use reading::{FirstUnit, parse};

@@ -1,6 +1,8 @@
 //! Units of the first form from their bytes.
 
-ghost use Rattle.std.specs.Prelude.{◌≡◌, option_map};
+ghost use Rattle.std.specs.Prelude.{◌≡◌, ◌↔◌, ℕ, List, IfOk, option_map};
+ghost use Rattle.first_form.specs.FirstForm.{IsFirstForm};
+ghost use Rattle.first_form.specs.FirstUnit.{Answers};
 ghost use Rattle.first_form.specs.Reading.{after_head, put_at, status_at};
 
 use crate::scanning::{after_blanks, after_gap, after_token, number_at};
@@ -52,4 +54,25 @@ fn status_at(bytes: &[u8]) -> Option<u16>
     let rest = after_token(rest, b";")?;
     let rest = after_token(rest, b"}")?;
     if after_blanks(rest).is_empty() { Some(status) } else { None }
+}
+
+/// Reads a unit of the first form; `None` where the bytes are none. Each byte is looked at a bounded
+/// number of times.
+pub fn parse(alloc: Global, bytes: &[u8]) -> Result<Option<FirstUnit>, AllocError>
+    // The unit that is answered is what the bytes spell, and nothing is answered only where they
+    // spell none.
+    ensures exact { IfOk result (λ read. (puts : List ℕ) (status : ℕ) → Answers read puts status ↔ IsFirstForm puts status bytes.now) }
+{
+    let Some(mut rest) = after_head(bytes) else {
+        return Ok(None);
+    };
+    let mut puts = Vec::new(alloc);
+    while let Some((put, after)) = put_at(rest) {
+        puts.push(put)?;
+        rest = after;
+    }
+    let Some(status) = status_at(rest) else {
+        return Ok(None);
+    };
+    Ok(Some(FirstUnit { puts, status }))
 }
