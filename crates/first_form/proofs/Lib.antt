@@ -5,3 +5,5 @@ pub mod ScanningLaws
 pub mod NumeralLaws
 pub mod TokenLaws
 pub mod UnitLaws
+pub mod LengthLaws
+pub mod ParseLaws

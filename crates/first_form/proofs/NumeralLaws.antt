@@ -1,9 +1,8 @@
 -- What the scanner reads as a numeral is one, and it reads each.
-use Rattle.std.proofs.Common.{◌≡◌, ℕ, suc, ◌+◌, ◌-◌, ◌*◌, ◌<◌, ◌≤◌, ◌&&◌, Bool, true, false, cond, eqb, List, [], ◌∷◌, length, Option, Some, None, refl, ap, sym, ◌∙◌, arith}
-use Rattle.std.specs.List.{list_all}
+use Rattle.std.proofs.Common.{◌≡◌, ℕ, ◌+◌, ◌-◌, ◌*◌, ◌<◌, ◌≤◌, true, cond, List, [], ◌∷◌, length, Some, None, refl, ap, ◌∙◌, arith}
 use Rattle.std.proofs.lemmas.Bool.{and_parts, and_from, ne_eqb, eqb-false}
 use Rattle.std.proofs.lemmas.Option.{none-some, same_Some, cond_some}
-use Rattle.first_form.specs.FirstForm.{is_digit, AreDigits, decimal, IsNumeral}
+use Rattle.first_form.specs.FirstForm.{is_digit, AreDigits, IsNumeral}
 use Rattle.first_form.specs.Scanning.{digit_at, numeral_at}
 use Rattle.first_form.proofs.Binds.{bind_some, some_bind, unless_some, some_unless}
 

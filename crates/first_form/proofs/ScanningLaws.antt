@@ -1,6 +1,6 @@
 -- Laws of the scanner.
-use Rattle.std.proofs.Common.{◌≡◌, ℕ, ◌+◌, ◌&&◌, Bool, true, false, cond, eqb, List, [], ◌∷◌, length, take, drop, Option, Some, None, MatchOption, option_map, Bor, refl, ap, sym, ◌∙◌, nat_eq}
-use Rattle.std.proofs.Common.{◌++◌, ◌⊎◌, inl, inr, subst, arith}
+use Rattle.std.proofs.Common.{◌≡◌, ℕ, ◌&&◌, Bool, true, false, cond, eqb, List, [], ◌∷◌, length, take, drop, Option, Some, None, MatchOption, option_map, Bor, refl, ap, sym, ◌∙◌, nat_eq}
+use Rattle.std.proofs.Common.{◌++◌, inl, inr, subst, arith}
 use Rattle.std.specs.List.{prefix_len}
 use Rattle.std.proofs.lemmas.Bool.{cases_Bool, eq-eqb, eqb-true}
 use Rattle.std.proofs.lemmas.Bool.Decides.{nat_tests}
@@ -79,7 +79,8 @@ after_text_found [] bytes rest h = same_Some bytes rest h
 after_text_found (t ∷ ts) [] rest h = cc
 after_text_found (t ∷ ts) (b ∷ bs) rest h =
     elim (cases_Bool (eqb b t)) [
-      inl e ↦ let more : after_text ts bs ≡ Some rest = ap (λ c. cond c (after_text ts bs) None) (sym e) ∙ h in
-        let here : b ≡ t = eqb-true b t e in
-        let then : bs ≡ ts ++ rest = after_text_found ts bs rest more in cc
-      | inr e ↦ let none : ◌≡◌ {A = Option (List ℕ)} None (Some rest) = ap (λ c. cond c (after_text ts bs) None) (sym e) ∙ h in absurd (none-some rest none) ]
+      | inl e ↦ let more : after_text ts bs ≡ Some rest = ap (λ c. cond c (after_text ts bs) None) (sym e) ∙ h in
+          let here : b ≡ t = eqb-true b t e in
+          let then : bs ≡ ts ++ rest = after_text_found ts bs rest more in cc
+      | inr e ↦ let none : ◌≡◌ {A = Option (List ℕ)} None (Some rest) = ap (λ c. cond c (after_text ts bs) None) (sym e) ∙ h in absurd (none-some rest none)
+    ]

@@ -1,14 +1,14 @@
 -- What the scanner takes as a token is one, and it takes each.
-use Rattle.std.proofs.Common.{◌≡◌, ℕ, suc, ◌+◌, ◌<◌, ◌≤◌, ◌&&◌, Bool, true, false, cond, eqb, ltb, List, [], ◌∷◌, ◌++◌, length, take, drop, Option, Some, None, refl, ap, sym, ◌∙◌, subst, arith, append_assoc, IsTrue, length-append, ◌⊎◌, inl, inr}
-use Rattle.std.specs.List.{list_all, prefix_len}
+use Rattle.std.proofs.Common.{◌≡◌, ℕ, ◌<◌, Bool, true, false, cond, ltb, List, [], ◌∷◌, ◌++◌, length, take, drop, Option, Some, None, refl, ap, sym, ◌∙◌, arith, append_assoc, IsTrue, length-append}
+use Rattle.std.specs.List.{prefix_len}
 use Rattle.std.proofs.lemmas.Bool.{and_parts, and_from, ltb-true, lt-ltb, false≢true}
 use Rattle.std.proofs.lemmas.List.{take-append-drop}
 use Rattle.std.proofs.Math.Seq.{take-append_seam, drop-append_seam}
-use Rattle.std.proofs.lemmas.Option.{none-some, same_Some, cond_some, some_pair_parts}
-use Rattle.first_form.specs.FirstForm.{is_blank, is_digit, AreBlanks, AreDigits, IsNumeral, Token, Word, Number, Mark, is_word, IsText, IsTokenAt}
+use Rattle.std.proofs.lemmas.Option.{cond_some, some_pair_parts}
+use Rattle.first_form.specs.FirstForm.{is_blank, is_digit, AreBlanks, IsNumeral, Token, Number, Mark, is_word, IsText, IsTokenAt}
 use Rattle.first_form.specs.Scanning.{◌>>=◌, after_blanks, after_gap, after_text, after_token, numeral_at, number_at}
-use Rattle.first_form.proofs.Binds.{bind_some, some_bind, unless_some, some_unless}
-use Rattle.first_form.proofs.Fronts.{front_passes, prefix_len-append_passes, prefix_len-stop}
+use Rattle.first_form.proofs.Binds.{bind_some, some_bind}
+use Rattle.first_form.proofs.Fronts.{prefix_len-append_passes, prefix_len-stop}
 use Rattle.first_form.proofs.ScanningLaws.{blank_no_digit, digit_no_blank, blanks_before, blanks_pass, blanks_cut, after_blanks-append, after_blanks-solid, after_text-append, after_text_found}
 use Rattle.first_form.proofs.NumeralLaws.{numeral_found, numeral_again}
 
@@ -35,7 +35,8 @@ token_found token text bytes rest spelled h = record {
   whole = blanks_cut bytes ∙ ap (λ xs. blanks_before bytes ++ xs) (after_text_found text (after_blanks bytes) rest h);
   blank = blanks_pass bytes;
   apart = λ e. absurd (false≢true e);
-  spelled = spelled }
+  spelled = spelled;
+}
 
 -- a word or a mark, whose text is the only one
 pub token_again : (after_word : Bool) (token : Token) (text bytes rest : List ℕ) → IsSolid text → ((other : List ℕ) → IsText token other → other ≡ text) → IsTokenAt after_word token bytes rest → after_token text bytes ≡ Some rest
@@ -49,12 +50,24 @@ token_again after_word token text bytes rest solid only at =
 -- a token is one wherever no blank is asked for
 pub beside : (after_word : Bool) (token : Token) (bytes rest : List ℕ) → IsTokenAt after_word token bytes rest → IsTokenAt false token bytes rest
 beside after_word token bytes rest at = record {
-  gap = at.gap; text = at.text; whole = at.whole; blank = at.blank; apart = λ e. absurd (false≢true e); spelled = at.spelled }
+  gap = at.gap;
+  text = at.text;
+  whole = at.whole;
+  blank = at.blank;
+  apart = λ e. absurd (false≢true e);
+  spelled = at.spelled;
+}
 
 -- a mark asks for none
 pub mark_beside : (after_word : Bool) (m : ℕ) (bytes rest : List ℕ) → IsTokenAt false (Mark m) bytes rest → IsTokenAt after_word (Mark m) bytes rest
 mark_beside true m bytes rest at = record {
-  gap = at.gap; text = at.text; whole = at.whole; blank = at.blank; apart = λ e. absurd (false≢true e); spelled = at.spelled }
+  gap = at.gap;
+  text = at.text;
+  whole = at.whole;
+  blank = at.blank;
+  apart = λ e. absurd (false≢true e);
+  spelled = at.spelled;
+}
 mark_beside false m bytes rest at = at
 
 -- behind a word, past the blanks
@@ -73,7 +86,8 @@ spaced_found token bytes start rest h at =
       whole = cut ∙ ap (λ xs. blanks_before bytes ++ xs) at.whole ∙ sym (append_assoc (blanks_before bytes) at.gap (at.text ++ rest));
       blank = all_append (blanks_before bytes) at.gap (blanks_pass bytes) at.blank;
       apart = λ _. omega arith;
-      spelled = at.spelled }
+      spelled = at.spelled;
+    }
   where
     all_append : (xs ys : List ℕ) → AreBlanks xs → AreBlanks ys → AreBlanks (xs ++ ys)
     all_append [] ys h g = g
@@ -86,10 +100,11 @@ spaced_again token bytes rest word solid at =
     let lengths = ap length at.whole ∙ length-append at.gap (at.text ++ rest) in
     let same = ap length start in
     let some : 0 < length at.gap = at.apart word in
-    let below : length (after_blanks bytes) < length bytes = omega arith in
-    (at.text ++ rest,
-     ap (λ c. cond c (Some (after_blanks bytes)) None) (lt-ltb _ _ below) ∙ ap Some start,
-     record { gap = []; text = at.text; whole = refl; blank = refl; apart = λ e. absurd (false≢true e); spelled = at.spelled })
+    let below : length (after_blanks bytes) < length bytes = omega arith in (
+      at.text ++ rest,
+      ap (λ c. cond c (Some (after_blanks bytes)) None) (lt-ltb _ _ below) ∙ ap Some start,
+      record { gap = []; text = at.text; whole = refl; blank = refl; apart = λ e. absurd (false≢true e); spelled = at.spelled },
+    )
 
 -- numbers
 pub numeral_solid : (n : ℕ) (text : List ℕ) → IsNumeral text n → IsSolid text
@@ -109,7 +124,8 @@ number_found bytes rest n h =
       whole = blanks_cut bytes ∙ ap (λ xs. blanks_before bytes ++ xs) (sym (take-append-drop count start) ∙ ap (λ xs. take count start ++ xs) parts.1);
       blank = blanks_pass bytes;
       apart = λ e. absurd (false≢true e);
-      spelled = numeral_found (take count start) n (read.1 ∙ ap Some parts.0) }
+      spelled = numeral_found (take count start) n (read.1 ∙ ap Some parts.0);
+    }
 
 -- no digit begins the bytes
 abbrev pub Stops : List ℕ → Type 0

@@ -1,12 +1,12 @@
 -- What the reader takes as the head, a call or the end is one, and it takes each.
-use Rattle.std.proofs.Common.{◌≡◌, ℕ, suc, ◌+◌, ◌*◌, ◌<◌, ◌≤◌, ◌&&◌, Bool, true, false, List, [], ◌∷◌, ◌++◌, length, Option, Some, None, refl, ap, sym, ◌∙◌, subst, arith, IsTrue, codes}
+use Rattle.std.proofs.Common.{◌≡◌, ℕ, Bool, true, false, List, [], ◌∷◌, ◌++◌, Some, refl, ap, sym, ◌∙◌, subst, arith, codes}
 use Rattle.std.proofs.lemmas.Option.{none-some, same_Some, some_pair_parts}
-use Rattle.first_form.specs.FirstForm.{is_blank, is_digit, AreBlanks, Token, Word, Number, Mark, is_word, IsText, IsTokenAt, IsSpelled, put_tokens, end_tokens, body_tokens, head_tokens, IsFirstForm}
-use Rattle.first_form.specs.Scanning.{after_blanks, after_gap, after_token, number_at}
+use Rattle.first_form.specs.FirstForm.{is_blank, AreBlanks, Token, Word, Number, Mark, is_word, IsTokenAt, IsSpelled, put_tokens, end_tokens, body_tokens, head_tokens, IsFirstForm}
+use Rattle.first_form.specs.Scanning.{after_blanks, after_token, number_at}
 use Rattle.first_form.specs.Reading.{after_head, put_at, at_end, status_at}
 use Rattle.first_form.proofs.Binds.{bind_some, some_bind}
 use Rattle.first_form.proofs.ScanningLaws.{after_blanks-all, blanks_alone}
-use Rattle.first_form.proofs.TokenLaws.{IsSolid, token_found, token_again, beside, mark_beside, spaced_found, spaced_again, after_blanks-solid_text, numeral_solid, number_found, mark_stops, number_again}
+use Rattle.first_form.proofs.TokenLaws.{IsSolid, token_found, token_again, mark_beside, spaced_found, spaced_again, after_blanks-solid_text, numeral_solid, number_found, mark_stops, number_again}
 
 -- one token more, and one less
 pub spelled_more : (after_word : Bool) (t : Token) (ts : List Token) (bytes rest : List ℕ) → IsTokenAt after_word t bytes rest → IsSpelled (is_word t) ts rest → IsSpelled after_word (t ∷ ts) bytes
@@ -31,10 +31,10 @@ at_end_found x n [] h = (same_Some x n h, refl)
 at_end_found x n (b ∷ bs) h = absurd (none-some n h)
 
 -- words and marks read
-word_found : (letters bytes rest : List ℕ) → after_token letters bytes ≡ Some rest → IsTokenAt false (Word letters) bytes rest
+pub word_found : (letters bytes rest : List ℕ) → after_token letters bytes ≡ Some rest → IsTokenAt false (Word letters) bytes rest
 word_found letters bytes rest h = token_found (Word letters) letters bytes rest refl h
 
-mark_found : (after_word : Bool) (m : ℕ) (bytes rest : List ℕ) → after_token (m ∷ []) bytes ≡ Some rest → IsTokenAt after_word (Mark m) bytes rest
+pub mark_found : (after_word : Bool) (m : ℕ) (bytes rest : List ℕ) → after_token (m ∷ []) bytes ≡ Some rest → IsTokenAt after_word (Mark m) bytes rest
 mark_found after_word m bytes rest h = mark_beside after_word m bytes rest (token_found (Mark m) (m ∷ []) bytes rest refl h)
 
 solid : (b : ℕ) (bs : List ℕ) → is_blank b ≡ false → IsSolid (b ∷ bs)
@@ -77,16 +77,17 @@ head_again ts bytes h =
     let c = spelled_less true _ _ b.0 b.2 in
     let d = spelled_less false _ _ c.0 c.2 in
     let e = spelled_less true _ _ d.0 d.2 in
-    let f = spelled_less false _ _ e.0 e.2 in
-    (f.0,
-     some_bind _ _ a.0 _ (word_again false 105 _ bytes a.0 refl a.1)
-     (some_bind _ _ g.0 _ g.1
-     (some_bind _ _ b.0 _ (word_again false 109 _ g.0 b.0 refl g.2)
-     (some_bind _ _ c.0 _ (mark_again true 40 b.0 c.0 refl c.1)
-     (some_bind _ _ d.0 _ (word_again false 118 _ c.0 d.0 refl d.1)
-     (some_bind _ _ e.0 _ (mark_again true 41 d.0 e.0 refl e.1)
-     (mark_again false 123 e.0 f.0 refl f.1)))))),
-     f.2)
+    let f = spelled_less false _ _ e.0 e.2 in (
+      f.0,
+      some_bind _ _ a.0 _ (word_again false 105 _ bytes a.0 refl a.1)
+          (some_bind _ _ g.0 _ g.1
+          (some_bind _ _ b.0 _ (word_again false 109 _ g.0 b.0 refl g.2)
+          (some_bind _ _ c.0 _ (mark_again true 40 b.0 c.0 refl c.1)
+          (some_bind _ _ d.0 _ (word_again false 118 _ c.0 d.0 refl d.1)
+          (some_bind _ _ e.0 _ (mark_again true 41 d.0 e.0 refl e.1)
+          (mark_again false 123 e.0 f.0 refl f.1)))))),
+      f.2,
+    )
 
 -- a call
 pub put_found : (ts : List Token) (bytes rest : List ℕ) (n : ℕ) → put_at bytes ≡ Some (n, rest) → IsSpelled false ts rest → IsSpelled false (put_tokens n ++ ts) bytes
@@ -113,14 +114,15 @@ put_again ts bytes n h =
     let b = spelled_less true _ _ a.0 a.2 in
     let x = spelled_less false _ _ b.0 b.2 in
     let c = spelled_less true _ _ x.0 x.2 in
-    let d = spelled_less false _ _ c.0 c.2 in
-    (d.0,
-     some_bind _ _ a.0 _ (word_again false 112 _ bytes a.0 refl a.1)
-     (some_bind _ _ b.0 _ (mark_again true 40 a.0 b.0 refl b.1)
-     (some_bind _ _ (n, x.0) _ (number_again false b.0 x.0 n (mark_stops true 41 x.0 c.0 refl c.1) x.1)
-     (some_bind _ _ c.0 _ (mark_again true 41 x.0 c.0 refl c.1)
-     (some_bind _ _ d.0 _ (mark_again false 59 c.0 d.0 refl d.1) refl)))),
-     d.2)
+    let d = spelled_less false _ _ c.0 c.2 in (
+      d.0,
+      some_bind _ _ a.0 _ (word_again false 112 _ bytes a.0 refl a.1)
+          (some_bind _ _ b.0 _ (mark_again true 40 a.0 b.0 refl b.1)
+          (some_bind _ _ (n, x.0) _ (number_again false b.0 x.0 n (mark_stops true 41 x.0 c.0 refl c.1) x.1)
+          (some_bind _ _ c.0 _ (mark_again true 41 x.0 c.0 refl c.1)
+          (some_bind _ _ d.0 _ (mark_again false 59 c.0 d.0 refl d.1) refl)))),
+      d.2,
+    )
 
 -- the end
 pub status_found : (bytes : List ℕ) (n : ℕ) → status_at bytes ≡ Some n → IsSpelled false (end_tokens n) bytes
@@ -155,13 +157,14 @@ status_again bytes n h =
     (ap (at_end n) (after_blanks-all d.0 (ended_spelled false d.0 d.2)))))))
 
 -- a call is no end
-pub put_no_end : (ts : List Token) (bytes : List ℕ) (n m : ℕ) → IsSpelled false (put_tokens n ++ ts) bytes → IsSpelled false (end_tokens m) bytes → ⊥
-put_no_end ts bytes n m h g =
-    let a = spelled_less false _ _ bytes h in
+pub put_no_end : (bytes rest : List ℕ) (n m : ℕ) → put_at bytes ≡ Some (n, rest) → IsSpelled false (end_tokens m) bytes → ⊥
+unfolding put_at
+put_no_end bytes rest n m h g =
+    let a = bind_some _ _ (n, rest) h in
     let b = spelled_less false _ _ bytes g in
-    let p = begins false 112 _ bytes a.0 refl a.1 in
+    let p = begins false 112 _ bytes a.0 refl (word_found _ bytes a.0 a.1) in
     let r = begins false 114 _ bytes b.0 refl b.1 in
-    absurd (heads (codes "ut_byte" ++ a.0) (codes "eturn" ++ b.0) (sym p ∙ r))
+    heads _ _ (sym p ∙ r)
   where
     heads : (xs ys : List ℕ) → 112 ∷ xs ≡ 114 ∷ ys → ⊥
     heads xs ys e = let f : ◌≡◌ {A = ℕ} 112 114 = cc in omega arith
@@ -170,8 +173,8 @@ put_no_end ts bytes n m h g =
 pub body_unique : (ps qs : List ℕ) (r s : ℕ) (bytes : List ℕ) → IsSpelled false (body_tokens ps r) bytes → IsSpelled false (body_tokens qs s) bytes → (ps ≡ qs) × (r ≡ s)
 unfolding body_tokens
 body_unique [] [] r s bytes h g = (refl, same_Some r s (sym (status_again bytes r h) ∙ status_again bytes s g))
-body_unique [] (q ∷ qs) r s bytes h g = absurd (put_no_end (body_tokens qs s) bytes q r g h)
-body_unique (p ∷ ps) [] r s bytes h g = absurd (put_no_end (body_tokens ps r) bytes p s h g)
+body_unique [] (q ∷ qs) r s bytes h g = let a = put_again (body_tokens qs s) bytes q g in absurd (put_no_end bytes a.0 q r a.1 h)
+body_unique (p ∷ ps) [] r s bytes h g = let a = put_again (body_tokens ps r) bytes p h in absurd (put_no_end bytes a.0 p s a.1 g)
 body_unique (p ∷ ps) (q ∷ qs) r s bytes h g =
     let a = put_again (body_tokens ps r) bytes p h in
     let b = put_again (body_tokens qs s) bytes q g in

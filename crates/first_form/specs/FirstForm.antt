@@ -83,3 +83,8 @@ head_tokens = Word (codes "int") ∷ Word (codes "main") ∷ Mark 40 ∷ Word (c
 -- The unit that puts these numbers in order and returns the status.
 unfoldable pub IsFirstForm : List ℕ → ℕ → List ℕ → Type 0
 IsFirstForm puts status bytes = IsSpelled false (head_tokens ++ body_tokens puts status) bytes
+
+-- numbers of at most three digits
+abbrev pub AreBelow : List ℕ → Type 0
+AreBelow [] = Unit {0}
+AreBelow (n ∷ ns) = (n < 1000) × AreBelow ns

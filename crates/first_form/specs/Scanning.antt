@@ -1,5 +1,5 @@
 -- What the scanner reads at the front of bytes, and what it leaves.
-use Rattle.std.specs.Prelude.{ℕ, suc, ◌+◌, ◌-◌, ◌*◌, ◌==◌, nat_lt, nat_le, Bool, true, false, if◌then◌else◌, List, [], ◌∷◌, length, slice_index, Option, Some, None, option_and_then, codes, take, drop}
+use Rattle.std.specs.Prelude.{ℕ, ◌+◌, ◌-◌, ◌*◌, ◌==◌, nat_lt, if◌then◌else◌, List, [], ◌∷◌, length, Option, Some, None, option_and_then, take, drop}
 use Rattle.std.specs.List.{prefix_len}
 use Rattle.first_form.specs.FirstForm.{is_blank, is_digit}
 

@@ -53,7 +53,11 @@ fn status_at(bytes: &[u8]) -> Option<u16>
     let (status, rest) = number_at(rest)?;
     let rest = after_token(rest, b";")?;
     let rest = after_token(rest, b"}")?;
-    if after_blanks(rest).is_empty() { Some(status) } else { None }
+    if after_blanks(rest).is_empty() {
+        Some(status)
+    } else {
+        None
+    }
 }
 
 /// Reads a unit of the first form; `None` where the bytes are none. Each byte is looked at a bounded

@@ -25,7 +25,10 @@ fn blank_count(bytes: &[u8]) -> usize
 fn digit_count(bytes: &[u8]) -> usize
     ensures { result ≡ prefix_len is_digit bytes.now }
 {
-    bytes.iter().take_while(|byte| byte.is_ascii_digit()).count()
+    bytes
+        .iter()
+        .take_while(|byte| byte.is_ascii_digit())
+        .count()
 }
 
 /// The bytes from the first on that isn't a blank.
@@ -42,7 +45,11 @@ pub fn after_gap(bytes: &[u8]) -> Option<&[u8]>
     ensures { option_map (λ rest. rest.now) result ≡ after_gap bytes.now }
 {
     let rest = after_blanks(bytes);
-    if rest.len() < bytes.len() { Some(rest) } else { None }
+    if rest.len() < bytes.len() {
+        Some(rest)
+    } else {
+        None
+    }
 }
 
 /// The bytes after a text, where the bytes begin with it.
@@ -66,7 +73,11 @@ fn digit_at(byte: u8) -> Option<u16>
     ensures value { result ≡ digit_at byte }
     ensures below { IfSome result (λ digit. digit < 10) }
 {
-    if byte.is_ascii_digit() { Some(u16::from(byte - b'0')) } else { None }
+    if byte.is_ascii_digit() {
+        Some(u16::from(byte - b'0'))
+    } else {
+        None
+    }
 }
 
 /// The number that a numeral of one to three digits stands for; a first digit 0 stands alone.
