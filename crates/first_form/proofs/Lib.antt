@@ -7,3 +7,4 @@ pub mod TokenLaws
 pub mod UnitLaws
 pub mod LengthLaws
 pub mod ParseLaws
+pub mod CodeLaws

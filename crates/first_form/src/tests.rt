@@ -1,6 +1,6 @@
 //! Texts with their answers by hand.
 
-use crate::parse;
+use crate::{code, parse};
 use std::process::Abort;
 use std::test::Fail;
 
@@ -116,5 +116,21 @@ fn others(rt: HostRuntime) -> Result<(), Fail> {
     assert!(rt; parse(rt.alloc(), b"int main(void){return 0;}\x80")?.is_none());
     assert!(rt; parse(rt.alloc(), b"int\xa0main(void){return 0;}")?.is_none());
     assert!(rt; parse(rt.alloc(), b"\xef\xbb\xbfint main(void){return 0;}")?.is_none());
+    Ok(())
+}
+
+/// The code of the unit that puts `Hi` and returns 7, as GNU as assembles it from
+/// `sub rsp,32`, three times `movabs rcx,n`, `movabs rax,service` and `call rax`, and `ud2`.
+const HI: &[u8] = b"\x48\x83\xEC\x20\
+\x48\xB9\x48\x00\x00\x00\x00\x00\x00\x00\x48\xB8\x30\x00\x00\x00\xFF\x7F\x00\x00\xFF\xD0\
+\x48\xB9\x69\x01\x00\x00\x00\x00\x00\x00\x48\xB8\x30\x00\x00\x00\xFF\x7F\x00\x00\xFF\xD0\
+\x48\xB9\x07\x00\x00\x00\x00\x00\x00\x00\x48\xB8\x50\x00\x00\x00\xFF\x7F\x00\x00\xFF\xD0\
+\x0F\x0B";
+
+#[test]
+fn codes(rt: HostRuntime) -> Result<(), Fail> {
+    let text = b"int main(void){put_byte(72);put_byte(361);return 7;}";
+    let unit = parse(rt.alloc(), text)?.ok_or("refused")?;
+    assert_eq!(rt; code(rt.alloc(), &unit)?.as_slice(), HI);
     Ok(())
 }
