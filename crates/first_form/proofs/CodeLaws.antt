@@ -56,23 +56,23 @@ code_ends old new end puts status i e f h g =
     f ∙ ap (λ xs. xs ++ spell_of Ud2) e ∙ append_assoc old (spelled (call_of Exit status [])) (spell_of Ud2) ∙ ap (λ xs. old ++ xs) (sym (body_ends puts status i h)) ∙ g
 
 -- the sizes of the instructions
-mov_rcx_size : (n : ℕ) → length (spell_of (MovImm64 Rcx n)) ≡ 10
+pub mov_rcx_size : (n : ℕ) → length (spell_of (MovImm64 Rcx n)) ≡ 10
 unfolding spell_of
 mov_rcx_size n = ap (λ k. suc (suc k)) (length-bytes_of 8 n)
 
-mov_rax_size : (n : ℕ) → length (spell_of (MovImm64 Rax n)) ≡ 10
+pub mov_rax_size : (n : ℕ) → length (spell_of (MovImm64 Rax n)) ≡ 10
 unfolding spell_of
 mov_rax_size n = ap (λ k. suc (suc k)) (length-bytes_of 8 n)
 
-call_size : length (spell_of (CallReg Rax)) ≡ 2
+pub call_size : length (spell_of (CallReg Rax)) ≡ 2
 unfolding spell_of high number_of_register
 call_size = refl
 
-sub_size : length (spell_of (SubImm Rsp (pos 32))) ≡ 4
+pub sub_size : length (spell_of (SubImm Rsp (pos 32))) ≡ 4
 unfolding spell_of fits8 bytes_of
 sub_size = refl
 
-end_size : length (spell_of Ud2) ≡ 2
+pub end_size : length (spell_of Ud2) ≡ 2
 unfolding spell_of
 end_size = refl
 
@@ -84,7 +84,7 @@ nothing_size : length (spelled []) ≡ 0
 unfolding spelled
 nothing_size = refl
 
-service_size : (service : Service) (argument : ℕ) (rest : List XInstr) → length (spelled (call_of service argument rest)) ≡ 22 + length (spelled rest)
+pub service_size : (service : Service) (argument : ℕ) (rest : List XInstr) → length (spelled (call_of service argument rest)) ≡ 22 + length (spelled rest)
 service_size service argument rest =
     let a = spelled_size (MovImm64 Rcx argument) (MovImm64 Rax (address_of service) ∷ CallReg Rax ∷ rest) in
     let b = spelled_size (MovImm64 Rax (address_of service)) (CallReg Rax ∷ rest) in

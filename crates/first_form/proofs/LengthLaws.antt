@@ -13,13 +13,13 @@ use Rattle.first_form.proofs.UnitLaws.{spelled_less, word_found, mark_found, hea
 least : Token → ℕ
 least (Word letters) = length letters
 least (Number n) = 1
-least (Mark m) = 1
+least (Mark marks) = length marks
 
 least_text : (t : Token) (after_word : Bool) (bytes rest : List ℕ) (at : IsTokenAt after_word t bytes rest) → least t ≤ length at.text
 unfolding least
 least_text (Word letters) after_word bytes rest at = let e = ap length at.spelled in omega arith
 least_text (Number n) after_word bytes rest at = omega (arith, at.spelled.some)
-least_text (Mark m) after_word bytes rest at = let e : length at.text ≡ length (m ∷ []) = ap length at.spelled in omega arith
+least_text (Mark marks) after_word bytes rest at = let e = ap length at.spelled in omega arith
 
 token_length : (after_word : Bool) (t : Token) (bytes rest : List ℕ) → IsTokenAt after_word t bytes rest → least t + length rest ≤ length bytes
 token_length after_word t bytes rest at =

@@ -59,7 +59,7 @@ beside after_word token bytes rest at = record {
 }
 
 -- a mark asks for none
-pub mark_beside : (after_word : Bool) (m : ℕ) (bytes rest : List ℕ) → IsTokenAt false (Mark m) bytes rest → IsTokenAt after_word (Mark m) bytes rest
+pub mark_beside : (after_word : Bool) (m : ℕ) (bytes rest : List ℕ) → IsTokenAt false (Mark (m ∷ [])) bytes rest → IsTokenAt after_word (Mark (m ∷ [])) bytes rest
 mark_beside true m bytes rest at = record {
   gap = at.gap;
   text = at.text;
@@ -131,7 +131,7 @@ number_found bytes rest n h =
 abbrev pub Stops : List ℕ → Type 0
 Stops rest = prefix_len is_digit rest ≡ 0
 
-pub mark_stops : (after_word : Bool) (m : ℕ) (bytes rest : List ℕ) → is_digit m ≡ false → IsTokenAt after_word (Mark m) bytes rest → Stops bytes
+pub mark_stops : (after_word : Bool) (m : ℕ) (bytes rest : List ℕ) → is_digit m ≡ false → IsTokenAt after_word (Mark (m ∷ [])) bytes rest → Stops bytes
 mark_stops after_word m bytes rest h at = ap (prefix_len is_digit) (at.whole ∙ ap (λ t. at.gap ++ (t ++ rest)) at.spelled) ∙ stops at.gap at.blank
   where
     stops : (gap : List ℕ) → AreBlanks gap → prefix_len is_digit (gap ++ (m ∷ rest)) ≡ 0

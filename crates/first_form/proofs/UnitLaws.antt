@@ -34,8 +34,8 @@ at_end_found x n (b ∷ bs) h = absurd (none-some n h)
 pub word_found : (letters bytes rest : List ℕ) → after_token letters bytes ≡ Some rest → IsTokenAt false (Word letters) bytes rest
 word_found letters bytes rest h = token_found (Word letters) letters bytes rest refl h
 
-pub mark_found : (after_word : Bool) (m : ℕ) (bytes rest : List ℕ) → after_token (m ∷ []) bytes ≡ Some rest → IsTokenAt after_word (Mark m) bytes rest
-mark_found after_word m bytes rest h = mark_beside after_word m bytes rest (token_found (Mark m) (m ∷ []) bytes rest refl h)
+pub mark_found : (after_word : Bool) (m : ℕ) (bytes rest : List ℕ) → after_token (m ∷ []) bytes ≡ Some rest → IsTokenAt after_word (Mark (m ∷ [])) bytes rest
+mark_found after_word m bytes rest h = mark_beside after_word m bytes rest (token_found (Mark (m ∷ [])) (m ∷ []) bytes rest refl h)
 
 solid : (b : ℕ) (bs : List ℕ) → is_blank b ≡ false → IsSolid (b ∷ bs)
 solid b bs h = record { first = b; others = bs; is = refl; solid = h }
@@ -43,8 +43,8 @@ solid b bs h = record { first = b; others = bs; is = refl; solid = h }
 word_again : (after_word : Bool) (b : ℕ) (bs bytes rest : List ℕ) → is_blank b ≡ false → IsTokenAt after_word (Word (b ∷ bs)) bytes rest → after_token (b ∷ bs) bytes ≡ Some rest
 word_again after_word b bs bytes rest h at = token_again after_word (Word (b ∷ bs)) (b ∷ bs) bytes rest (solid b bs h) (λ other e. e) at
 
-mark_again : (after_word : Bool) (m : ℕ) (bytes rest : List ℕ) → is_blank m ≡ false → IsTokenAt after_word (Mark m) bytes rest → after_token (m ∷ []) bytes ≡ Some rest
-mark_again after_word m bytes rest h at = token_again after_word (Mark m) (m ∷ []) bytes rest (solid m [] h) (λ other e. e) at
+mark_again : (after_word : Bool) (m : ℕ) (bytes rest : List ℕ) → is_blank m ≡ false → IsTokenAt after_word (Mark (m ∷ [])) bytes rest → after_token (m ∷ []) bytes ≡ Some rest
+mark_again after_word m bytes rest h at = token_again after_word (Mark (m ∷ [])) (m ∷ []) bytes rest (solid m [] h) (λ other e. e) at
 
 -- where the blanks end
 begins : (after_word : Bool) (b : ℕ) (bs bytes rest : List ℕ) → is_blank b ≡ false → IsTokenAt after_word (Word (b ∷ bs)) bytes rest → after_blanks bytes ≡ b ∷ (bs ++ rest)

@@ -31,23 +31,23 @@ pub record IsNumeral (text : List ℕ) (n : ℕ) : Type 0 where
   pub leading : slice_index text 0 ≡ 48 → length text ≡ 1
   pub value : n ≡ decimal 0 text
 
--- keywords and names by their letters, constants by their values, and punctuators
+-- keywords and names by their letters, constants by their values, and punctuators by their marks
 pub data Token : Type 0 where
   Word : List ℕ → Token
   Number : ℕ → Token
-  Mark : ℕ → Token
+  Mark : List ℕ → Token
 
 -- what letters and digits make up
 abbrev pub is_word : Token → Bool
 is_word (Word letters) = true
 is_word (Number n) = true
-is_word (Mark m) = false
+is_word (Mark marks) = false
 
 -- the bytes of a token
 abbrev pub IsText : Token → List ℕ → Type 0
 IsText (Word letters) text = text ≡ letters
 IsText (Number n) text = IsNumeral text n
-IsText (Mark m) text = text ≡ m ∷ []
+IsText (Mark marks) text = text ≡ marks
 
 -- The bytes begin with blanks and a token, and then comes the rest. Behind a word a word needs a blank.
 pub record IsTokenAt (after_word : Bool) (token : Token) (bytes rest : List ℕ) : Type 0 where
@@ -65,11 +65,11 @@ IsSpelled after_word (t ∷ ts) bytes = (rest : List ℕ) × IsTokenAt after_wor
 
 -- `put_byte(n);`
 abbrev pub put_tokens : ℕ → List Token
-put_tokens n = Word (codes "put_byte") ∷ Mark 40 ∷ Number n ∷ Mark 41 ∷ Mark 59 ∷ []
+put_tokens n = Word (codes "put_byte") ∷ Mark (codes "(") ∷ Number n ∷ Mark (codes ")") ∷ Mark (codes ";") ∷ []
 
 -- `return n; }`
 abbrev pub end_tokens : ℕ → List Token
-end_tokens n = Word (codes "return") ∷ Number n ∷ Mark 59 ∷ Mark 125 ∷ []
+end_tokens n = Word (codes "return") ∷ Number n ∷ Mark (codes ";") ∷ Mark (codes "}") ∷ []
 
 -- the calls and the end
 unfoldable pub body_tokens : List ℕ → ℕ → List Token
@@ -78,7 +78,7 @@ body_tokens (put ∷ puts) status = put_tokens put ++ body_tokens puts status
 
 -- `int main(void) {`
 abbrev pub head_tokens : List Token
-head_tokens = Word (codes "int") ∷ Word (codes "main") ∷ Mark 40 ∷ Word (codes "void") ∷ Mark 41 ∷ Mark 123 ∷ []
+head_tokens = Word (codes "int") ∷ Word (codes "main") ∷ Mark (codes "(") ∷ Word (codes "void") ∷ Mark (codes ")") ∷ Mark (codes "{") ∷ []
 
 -- The unit that puts these numbers in order and returns the status.
 unfoldable pub IsFirstForm : List ℕ → ℕ → List ℕ → Type 0
