@@ -1,9 +1,8 @@
-use Rattle.std.proofs.Common.{◌≡◌, ℕ, ◌+◌, ◌<◌, List, [], ◌∷◌, ◌++◌, length, get_or, drop, refl, ap, sym, ◌∙◌, arith, pos, append_assoc}
-use Rattle.reg_map.specs.declared.registers.X64Reg.TheVariants.{Rax, Rcx, Rsp}
-use Rattle.x64_isa.specs.declared.instruction.XInstr.TheVariants.{MovImm64, SubImm, CallReg, Ud2}
+use Rattle.std.proofs.Common.{◌≡◌, ◌++◌, length, get_or, ap, sym, ◌∙◌, arith, pos}
+use Rattle.reg_map.specs.declared.registers.X64Reg.TheVariants.{Rsp}
+use Rattle.x64_isa.specs.declared.instruction.XInstr.TheVariants.{SubImm}
 use Rattle.x64_isa.specs.Spelling.{spell_of}
-use Rattle.first_form.specs.declared.services.Service.TheVariants.{PutByte, Exit}
-use Rattle.first_form.specs.FirstCode.{call_of, body_of, spelled, code_of}
+use Rattle.first_form.specs.FirstCode.{body_of, spelled, code_of}
 use Rattle.first_form.proofs.CodeLaws.{code_begins, put_more, code_ends}
 use Rattle.first_form.proofs.coding.code.Goals as goal
 
