@@ -17,3 +17,6 @@ pub use decoder::decode;
 pub use encoder::encode;
 pub use instruction::{XBad, XInstr};
 pub use law::one_reading;
+
+#[cfg(test)]
+mod tests;

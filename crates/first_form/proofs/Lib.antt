@@ -1,0 +1,10 @@
+pub mod Counts
+pub mod Fronts
+pub mod Binds
+pub mod ScanningLaws
+pub mod NumeralLaws
+pub mod TokenLaws
+pub mod UnitLaws
+pub mod LengthLaws
+pub mod ParseLaws
+pub mod CodeLaws
