@@ -1,0 +1,6 @@
+use Rattle.hx_bits.proofs.Bytes.{number_at_from}
+use Rattle.hx_bits.proofs.numbers.le_u64_at.Goals as goal
+
+pub returns : goal.returns
+returns c =
+    number_at_from 8 c.args.at _ c.args.bytes.now c.in_ok-rest.rest.now c.read_u64.ensures c.in_ok-rest.ensures.within c.in_ok-rest.ensures.rest
