@@ -5,3 +5,5 @@ pub mod Inside
 pub mod First
 pub mod Stored
 pub mod Places
+pub mod Regions
+pub mod Laws
