@@ -44,15 +44,15 @@ ok_writable_in r a n e = grind (arith, nat_tests)
 pub store_ok : (m : Space) (a n : ℕ) → writable m.regions a n ≡ true → store_of m a n ≡ Ok tt
 store_ok m a n w =
     elim (region_of m.regions a) as (λ o. region_of m.regions a ≡ o → store_of m a n ≡ Ok tt) [
-      None ↦ λ e. absurd (false≢true (sym (writable_of_none m.regions a n e) ∙ w))
-    | Some r ↦ λ e. store_of_region m a n r e ∙ store_ok_in r a n (sym (writable_of_region m.regions a n r e) ∙ w)
+      | None ↦ λ e. absurd (false≢true (sym (writable_of_none m.regions a n e) ∙ w))
+      | Some r ↦ λ e. store_of_region m a n r e ∙ store_ok_in r a n (sym (writable_of_region m.regions a n r e) ∙ w)
     ] refl
 
 pub store_ok-writable : (m : Space) (a n : ℕ) → store_of m a n ≡ Ok tt → writable m.regions a n ≡ true
 store_ok-writable m a n s =
     elim (region_of m.regions a) as (λ o. region_of m.regions a ≡ o → writable m.regions a n ≡ true) [
-      None ↦ λ e. absurd (refused_is_not_ok (no_region m.guard a) (sym (store_of_none m a n e) ∙ s))
-    | Some r ↦ λ e. writable_of_region m.regions a n r e ∙ ok_writable_in r a n (sym (store_of_region m a n r e) ∙ s)
+      | None ↦ λ e. absurd (refused_is_not_ok (no_region m.guard a) (sym (store_of_none m a n e) ∙ s))
+      | Some r ↦ λ e. writable_of_region m.regions a n r e ∙ ok_writable_in r a n (sym (store_of_region m a n r e) ∙ s)
     ] refl
 
 -- what a store makes loadable
@@ -67,18 +67,18 @@ stored_in_after r q a n p = ap₂ (λ e w. cond (leb (a + n) e) (cond w (Ok tt) 
 pub store_of-after_store : (m : Space) (a n v b k : ℕ) → store_of (after_store m a n v) b k ≡ store_of m b k
 store_of-after_store m a n v b k =
     elim (region_of m.regions b) as (λ o. region_of m.regions b ≡ o → store_of (after_store m a n v) b k ≡ store_of m b k) [
-      None ↦ λ e. store_of_none (after_store m a n v) b k (region_of-put_none m.regions a (bytes_of n v) b e) ∙ sym (store_of_none m b k e)
-    | Some r ↦ λ e. let p = region_of-put m.regions a (bytes_of n v) b r e in
-        store_of_region (after_store m a n v) b k p.0 p.1 ∙ stored_in_after r p.0 b k p.2 ∙ sym (store_of_region m b k r e)
+      | None ↦ λ e. store_of_none (after_store m a n v) b k (region_of-put_none m.regions a (bytes_of n v) b e) ∙ sym (store_of_none m b k e)
+      | Some r ↦ λ e. let p = region_of-put m.regions a (bytes_of n v) b r e in
+          store_of_region (after_store m a n v) b k p.0 p.1 ∙ stored_in_after r p.0 b k p.2 ∙ sym (store_of_region m b k r e)
     ] refl
 
 -- a load of other bytes is the same after a store, refused or not
 load_bad-put : (m : Space) (a : ℕ) (bs : List ℕ) (b : ℕ) → load_bad (region_of (put m.regions a bs) b) m.guard b ≡ load_bad (region_of m.regions b) m.guard b
 load_bad-put m a bs b =
     elim (region_of m.regions b) as (λ o. region_of m.regions b ≡ o → load_bad (region_of (put m.regions a bs) b) m.guard b ≡ load_bad o m.guard b) [
-      None ↦ λ e. ap (λ o. load_bad o m.guard b) (region_of-put_none m.regions a bs b e)
-    | Some r ↦ λ e. let p = region_of-put m.regions a bs b r e in
-        ap (λ o. load_bad o m.guard b) p.1 ∙ ap Unmapped p.2.ends
+      | None ↦ λ e. ap (λ o. load_bad o m.guard b) (region_of-put_none m.regions a bs b e)
+      | Some r ↦ λ e. let p = region_of-put m.regions a bs b r e in
+          ap (λ o. load_bad o m.guard b) p.1 ∙ ap Unmapped p.2.ends
     ] refl
 
 pub load_of-after_store : (m : Space) (a n v b k : ℕ) → Apart a n b k → load_of (after_store m a n v) b k ≡ load_of m b k
@@ -94,8 +94,8 @@ put_unless : (rs : List Segment) (a : ℕ) (bs : List ℕ) → writable rs a (le
 put_unless [] a bs w = refl
 put_unless (r ∷ rs) a bs w =
     elim (has r a) as (λ c. cond c (writable_in r a (length bs)) (writable rs a (length bs)) ≡ false → cond c (put_in r a bs ∷ rs) (r ∷ put rs a bs) ≡ r ∷ rs) [
-      true ↦ λ e. ap (λ q. q ∷ rs) (put_in_unless r a bs e)
-    | false ↦ λ e. ap (λ l. r ∷ l) (put_unless rs a bs e)
+      | true ↦ λ e. ap (λ q. q ∷ rs) (put_in_unless r a bs e)
+      | false ↦ λ e. ap (λ l. r ∷ l) (put_unless rs a bs e)
     ] w
 
 pub after_refused : (m : Space) (a n v : ℕ) (bad : MemBad) → store_of m a n ≡ Err bad → after_store m a n v ≡ m
@@ -130,24 +130,24 @@ region_not_both : (rs : List Segment) (a : ℕ) (r : Segment) → IsWriteOrExec 
 region_not_both [] a r h e = absurd (none-some r e)
 region_not_both (s ∷ rs) a r h e =
     elim (has s a) as (λ c. cond c (Some s) (region_of rs a) ≡ Some r → (r.write && r.exec) ≡ false) [
-      true ↦ λ q. let P : Segment → Type 0 = λ t. (t.write && t.exec) ≡ false in subst P (same_Some s r q) h.0
-    | false ↦ λ q. region_not_both rs a r h.1 q
+      | true ↦ λ q. let P : Segment → Type 0 = λ t. (t.write && t.exec) ≡ false in subst P (same_Some s r q) h.0
+      | false ↦ λ q. region_not_both rs a r h.1 q
     ] e
 
 pub fetch_of-after_store : (m : Space) (a n v b k : ℕ) → IsWriteOrExec m.regions → fetch_of (after_store m a n v) b k ≡ fetch_of m b k
 fetch_of-after_store m a n v b k h =
     elim (region_of m.regions b) as (λ o. region_of m.regions b ≡ o → fetch_of (after_store m a n v) b k ≡ fetch_of m b k) [
-      None ↦ λ e. fetch_of_none (after_store m a n v) b k (region_of-put_none m.regions a (bytes_of n v) b e) ∙ sym (fetch_of_none m b k e)
-    | Some r ↦ λ e. let p = region_of-put m.regions a (bytes_of n v) b r e in
-        fetch_of_region (after_store m a n v) b k p.0 p.1 ∙ fetched_in_after r p.0 b k p.2 (region_not_both m.regions b r h e) ∙ sym (fetch_of_region m b k r e)
+      | None ↦ λ e. fetch_of_none (after_store m a n v) b k (region_of-put_none m.regions a (bytes_of n v) b e) ∙ sym (fetch_of_none m b k e)
+      | Some r ↦ λ e. let p = region_of-put m.regions a (bytes_of n v) b r e in
+          fetch_of_region (after_store m a n v) b k p.0 p.1 ∙ fetched_in_after r p.0 b k p.2 (region_not_both m.regions b r h e) ∙ sym (fetch_of_region m b k r e)
     ] refl
 
 pub IsWriteOrExec-put : (rs : List Segment) (a : ℕ) (bs : List ℕ) → IsWriteOrExec rs → IsWriteOrExec (put rs a bs)
 IsWriteOrExec-put [] a bs h = h
 IsWriteOrExec-put (r ∷ rs) a bs h =
     elim (has r a) as (λ c. IsWriteOrExec (cond c (put_in r a bs ∷ rs) (r ∷ put rs a bs))) [
-      true ↦ h
-    | false ↦ (h.0, IsWriteOrExec-put rs a bs h.1)
+      | true ↦ h
+      | false ↦ (h.0, IsWriteOrExec-put rs a bs h.1)
     ]
 
 -- a number that is loaded is one of n bytes
@@ -155,26 +155,26 @@ AreBytes-region : (rs : List Segment) (a : ℕ) (r : Segment) → IsLaidOut rs �
 AreBytes-region [] a r w e = absurd (none-some r e)
 AreBytes-region (s ∷ rs) a r w e =
     elim (has s a) as (λ c. cond c (Some s) (region_of rs a) ≡ Some r → AreBytes r.bytes) [
-      true ↦ λ q. let P : Segment → Type 0 = λ t. AreBytes t.bytes in subst P (same_Some s r q) w.0.bytes
-    | false ↦ λ q. AreBytes-region rs a r w.1.1 q
+      | true ↦ λ q. let P : Segment → Type 0 = λ t. AreBytes t.bytes in subst P (same_Some s r q) w.0.bytes
+      | false ↦ λ q. AreBytes-region rs a r w.1.1 q
     ] e
 
 pub AreBytes-read : (rs : List Segment) (a n : ℕ) (xs : List ℕ) → IsLaidOut rs → read rs a n ≡ Some xs → AreBytes xs
 AreBytes-read rs a n xs w e =
     elim (region_of rs a) as (λ o. region_of rs a ≡ o → AreBytes xs) [
-      None ↦ λ q. absurd (none-some xs (sym (read_of_none rs a n q) ∙ e))
-    | Some r ↦ λ q. let f = read_fits r a n xs (sym (read_of_region rs a n r q) ∙ e) in
-        subst AreBytes f.1 (AreBytes-take n _ (AreBytes-drop (a - r.start) r.bytes (AreBytes-region rs a r w q)))
+      | None ↦ λ q. absurd (none-some xs (sym (read_of_none rs a n q) ∙ e))
+      | Some r ↦ λ q. let f = read_fits r a n xs (sym (read_of_region rs a n r q) ∙ e) in
+          subst AreBytes f.1 (AreBytes-take n _ (AreBytes-drop (a - r.start) r.bytes (AreBytes-region rs a r w q)))
     ] refl
 
 pub load_lt : (m : Space) (a n v : ℕ) → IsMemory m → load_of m a n ≡ Ok v → v < 256 ^ n
 load_lt m a n v w e =
     elim (read m.regions a n) as (λ o. read m.regions a n ≡ o → loaded o (load_bad (region_of m.regions a) m.guard a) ≡ Ok v → v < 256 ^ n) [
-      None ↦ λ q h. absurd (err_is_not_ok _ v h)
-    | Some xs ↦ λ q h.
-        let bound : number_of xs < 256 ^ length xs = number_of_lt xs (AreBytes-read m.regions a n xs w.regions q) in
-        let long : length xs ≡ n = length-read m.regions a n xs q in
-        subst (λ k. k < 256 ^ n) (same_Ok _ _ h) (subst (λ k. number_of xs < 256 ^ k) long bound)
+      | None ↦ λ q h. absurd (err_is_not_ok _ v h)
+      | Some xs ↦ λ q h.
+          let bound : number_of xs < 256 ^ length xs = number_of_lt xs (AreBytes-read m.regions a n xs w.regions q) in
+          let long : length xs ≡ n = length-read m.regions a n xs q in
+          subst (λ k. k < 256 ^ n) (same_Ok _ _ h) (subst (λ k. number_of xs < 256 ^ k) long bound)
     ] refl e
   where
     err_is_not_ok : (bad : MemBad) (v : ℕ) → ◌≡◌ {A = Result ℕ MemBad} (Err bad) (Ok v) → ⊥

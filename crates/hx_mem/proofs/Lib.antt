@@ -7,3 +7,5 @@ pub mod Stored
 pub mod Places
 pub mod Regions
 pub mod Laws
+pub mod Refused
+pub mod Fetches

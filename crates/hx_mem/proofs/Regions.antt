@@ -16,40 +16,40 @@ pub region_has : (rs : List Segment) (a : ℕ) (r : Segment) → region_of rs a 
 region_has [] a r e = absurd (none-some r e)
 region_has (s ∷ rs) a r e =
     elim (has s a) as (λ c. has s a ≡ c → cond c (Some s) (region_of rs a) ≡ Some r → (r.start ≤ a) × (a < end_of r)) [
-      true ↦ λ h q. let P : Segment → Type 0 = λ t. (t.start ≤ a) × (a < end_of t) in subst P (same_Some _ _ q) (has-true s a h)
-    | false ↦ λ h q. region_has rs a r q
+      | true ↦ λ h q. let P : Segment → Type 0 = λ t. (t.start ≤ a) × (a < end_of t) in subst P (same_Some _ _ q) (has-true s a h)
+      | false ↦ λ h q. region_has rs a r q
     ] refl e
 
 pub writable_of_region : (rs : List Segment) (a n : ℕ) (r : Segment) → region_of rs a ≡ Some r → writable rs a n ≡ writable_in r a n
 writable_of_region [] a n r e = absurd (none-some r e)
 writable_of_region (s ∷ rs) a n r e =
     elim (has s a) as (λ c. cond c (Some s) (region_of rs a) ≡ Some r → cond c (writable_in s a n) (writable rs a n) ≡ writable_in r a n) [
-      true ↦ λ q. ap (λ t. writable_in t a n) (same_Some _ _ q)
-    | false ↦ λ q. writable_of_region rs a n r q
+      | true ↦ λ q. ap (λ t. writable_in t a n) (same_Some _ _ q)
+      | false ↦ λ q. writable_of_region rs a n r q
     ] e
 
 pub writable_of_none : (rs : List Segment) (a n : ℕ) → region_of rs a ≡ None → writable rs a n ≡ false
 writable_of_none [] a n e = refl
 writable_of_none (s ∷ rs) a n e =
     elim (has s a) as (λ c. cond c (Some s) (region_of rs a) ≡ None → cond c (writable_in s a n) (writable rs a n) ≡ false) [
-      true ↦ λ q. absurd (none-some _ (sym q))
-    | false ↦ λ q. writable_of_none rs a n q
+      | true ↦ λ q. absurd (none-some _ (sym q))
+      | false ↦ λ q. writable_of_none rs a n q
     ] e
 
 pub code_of_region : (rs : List Segment) (a n : ℕ) (r : Segment) → region_of rs a ≡ Some r → code_of rs a n ≡ code_in r a n
 code_of_region [] a n r e = absurd (none-some r e)
 code_of_region (s ∷ rs) a n r e =
     elim (has s a) as (λ c. cond c (Some s) (region_of rs a) ≡ Some r → cond c (code_in s a n) (code_of rs a n) ≡ code_in r a n) [
-      true ↦ λ q. ap (λ t. code_in t a n) (same_Some _ _ q)
-    | false ↦ λ q. code_of_region rs a n r q
+      | true ↦ λ q. ap (λ t. code_in t a n) (same_Some _ _ q)
+      | false ↦ λ q. code_of_region rs a n r q
     ] e
 
 pub code_of_none : (rs : List Segment) (a n : ℕ) → region_of rs a ≡ None → code_of rs a n ≡ None
 code_of_none [] a n e = refl
 code_of_none (s ∷ rs) a n e =
     elim (has s a) as (λ c. cond c (Some s) (region_of rs a) ≡ None → cond c (code_in s a n) (code_of rs a n) ≡ None) [
-      true ↦ λ q. absurd (none-some _ (sym q))
-    | false ↦ λ q. code_of_none rs a n q
+      | true ↦ λ q. absurd (none-some _ (sym q))
+      | false ↦ λ q. code_of_none rs a n q
     ] e
 
 -- accesses by the region of their address
@@ -82,17 +82,17 @@ pub region_of-put : (rs : List Segment) (b : ℕ) (bs : List ℕ) (a : ℕ) (r :
 region_of-put [] b bs a r e = absurd (none-some r e)
 region_of-put (s ∷ rs) b bs a r e = ⊎_elim
     (λ here. let same : s ≡ r = same_Some s r (sym (cond-true (has s a) (Some s) (region_of rs a) here) ∙ e) in
-        let P : Segment → Type 0 = λ t. (q : Segment) × (region_of (put (s ∷ rs) b bs) a ≡ Some q) × IsRegionAfter t q in
-        subst P same (⊎_elim
-            (λ hb. (put_in s b bs, ap (λ c. region_of (cond c (put_in s b bs ∷ rs) (s ∷ put rs b bs)) a) hb ∙ cond-true (has (put_in s b bs) a) (Some (put_in s b bs)) (region_of rs a) (has-put_in s b bs hb a ∙ here), after s hb))
-            (λ hb. (s, ap (λ c. region_of (cond c (put_in s b bs ∷ rs) (s ∷ put rs b bs)) a) hb ∙ cond-true (has s a) (Some s) (region_of (put rs b bs) a) here, record { ends = refl; write = refl; exec = refl; fixed = λ _. refl }))
-            (cases_Bool (has s b))))
+    let P : Segment → Type 0 = λ t. (q : Segment) × (region_of (put (s ∷ rs) b bs) a ≡ Some q) × IsRegionAfter t q in
+    subst P same (⊎_elim
+    (λ hb. (put_in s b bs, ap (λ c. region_of (cond c (put_in s b bs ∷ rs) (s ∷ put rs b bs)) a) hb ∙ cond-true (has (put_in s b bs) a) (Some (put_in s b bs)) (region_of rs a) (has-put_in s b bs hb a ∙ here), after s hb))
+    (λ hb. (s, ap (λ c. region_of (cond c (put_in s b bs ∷ rs) (s ∷ put rs b bs)) a) hb ∙ cond-true (has s a) (Some s) (region_of (put rs b bs) a) here, record { ends = refl; write = refl; exec = refl; fixed = λ _. refl }))
+    (cases_Bool (has s b))))
     (λ off. let rest : region_of rs a ≡ Some r = sym (cond-false (has s a) (Some s) (region_of rs a) off) ∙ e in
-        ⊎_elim
-            (λ hb. (r, ap (λ c. region_of (cond c (put_in s b bs ∷ rs) (s ∷ put rs b bs)) a) hb ∙ cond-false (has (put_in s b bs) a) (Some (put_in s b bs)) (region_of rs a) (has-put_in s b bs hb a ∙ off) ∙ rest, record { ends = refl; write = refl; exec = refl; fixed = λ _. refl }))
-            (λ hb. let more = region_of-put rs b bs a r rest in
-                (more.0, ap (λ c. region_of (cond c (put_in s b bs ∷ rs) (s ∷ put rs b bs)) a) hb ∙ cond-false (has s a) (Some s) (region_of (put rs b bs) a) off ∙ more.1, more.2))
-            (cases_Bool (has s b)))
+    ⊎_elim
+    (λ hb. (r, ap (λ c. region_of (cond c (put_in s b bs ∷ rs) (s ∷ put rs b bs)) a) hb ∙ cond-false (has (put_in s b bs) a) (Some (put_in s b bs)) (region_of rs a) (has-put_in s b bs hb a ∙ off) ∙ rest, record { ends = refl; write = refl; exec = refl; fixed = λ _. refl }))
+    (λ hb. let more = region_of-put rs b bs a r rest in
+    (more.0, ap (λ c. region_of (cond c (put_in s b bs ∷ rs) (s ∷ put rs b bs)) a) hb ∙ cond-false (has s a) (Some s) (region_of (put rs b bs) a) off ∙ more.1, more.2))
+    (cases_Bool (has s b)))
     (cases_Bool (has s a))
   where
     after : (s : Segment) → has s b ≡ true → IsRegionAfter s (put_in s b bs)
