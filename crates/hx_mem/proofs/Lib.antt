@@ -5,3 +5,7 @@ pub mod Inside
 pub mod First
 pub mod Stored
 pub mod Places
+pub mod Regions
+pub mod Laws
+pub mod Refused
+pub mod Fetches

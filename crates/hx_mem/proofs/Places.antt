@@ -1,11 +1,12 @@
 -- Regions at their places: what adding one and a write make of the order.
 use Rattle.std.proofs.Common.{◌≡◌, ℕ, zero, suc, ◌+◌, ◌<◌, ◌≤◌, ◌⊎◌, min, max, Bool, true, false, ◌&&◌, leb, ltb, cond, List, [], ◌∷◌, ◌++◌, length, take, drop, get_or, insert, Option, Some, None, refl, sym, ap, ◌∙◌, arith, ⊎_elim, subst}
-use Rattle.std.proofs.lemmas.Bool.{cases_Bool, cond-true, cond-false, leb-true, leb-false, ltb-true, le-leb, lt-leb, lt-ltb, and_parts, false≢true}
+use Rattle.std.proofs.lemmas.Bool.{cases_Bool, cond-true, cond-false, leb-true, leb-false, ltb-true, ltb-false, and_from, le-leb, lt-leb, lt-ltb, and_parts, false≢true}
 use Rattle.std.proofs.lemmas.Option.{none-some}
 use Rattle.hx_words.specs.LittleEndian.{bytes_of, AreBytes}
 use Rattle.hx_mem.specs.declared.memory.GuardRange.{GuardRange}
 use Rattle.hx_mem.specs.Segments.{Segment}
 use Rattle.hx_mem.specs.Space.{Space, end_of, has, put, put_in, region_of, guarded, shares_none, misses, misses_guard, with_region, after_add, after_store, has_room, has_room_for_guard, IsPlaced, IsBelow, IsLaidOut, IsMemory}
+use Rattle.hx_mem.specs.Refusals.{EndBy, IsWriteOrExec}
 use Rattle.hx_mem.specs.Found.{no_segment, AllStartBy, AllStartPast}
 use Rattle.hx_mem.proofs.Writes.{has-true, has_from, has-put_in}
 use Rattle.hx_mem.proofs.Within.{IsLaidOut-put}
@@ -25,7 +26,7 @@ misses_has (r ∷ rs) s n a e l h =
     cond-false _ _ _ (outside r s n a p.0 l h) ∙ misses_has rs s n a p.1 l h
 
 -- one more region
-region_of-with_region : (r : Segment) (rs : List Segment) (a : ℕ) → has r a ≡ false → region_of (with_region r rs) a ≡ region_of rs a
+pub region_of-with_region : (r : Segment) (rs : List Segment) (a : ℕ) → has r a ≡ false → region_of (with_region r rs) a ≡ region_of rs a
 region_of-with_region r [] a h = cond-false _ _ _ h
 region_of-with_region r (s ∷ rs) a h =
     elim (leb s.start r.start) as (λ c. region_of (cond c (s ∷ with_region r rs) (r ∷ (s ∷ rs))) a ≡ cond (has s a) (Some s) (region_of rs a)) [
@@ -150,3 +151,73 @@ IsMemory-added old ws g r i m e some bytes room items at w =
     let here : has_room (record { regions = old; guard = g }) r.start (length r.bytes) ≡ true = ap (λ q. has_room q r.start (length r.bytes)) e ∙ room in
     let placed : IsPlaced r = record { some = some; low = leb-true _ _ (and_parts _ _ here).0; bytes = bytes } in
     subst P (sym (items ∙ inserted r old i at.bound at.started at.others)) (IsMemory-with_region (record { regions = old; guard = g }) r placed here w)
+
+-- the region of an address after one more region
+region_of-with_region_here : (r : Segment) (rs : List Segment) (a : ℕ) → misses rs r.start (length r.bytes) ≡ true → has r a ≡ true → region_of (with_region r rs) a ≡ Some r
+region_of-with_region_here r [] a e h = cond-true _ _ _ h
+region_of-with_region_here r (s ∷ rs) a e h =
+    let p = and_parts _ _ e in
+    let q = has-true r a h in
+    let off : has s a ≡ false = outside s r.start (length r.bytes) a p.0 q.0 q.1 in
+    elim (leb s.start r.start) as (λ c. region_of (cond c (s ∷ with_region r rs) (r ∷ (s ∷ rs))) a ≡ Some r) [
+      | true ↦ cond-false (has s a) (Some s) (region_of (with_region r rs) a) off ∙ region_of-with_region_here r rs a p.1 h
+      | false ↦ cond-true (has r a) (Some r) (region_of (s ∷ rs) a) h
+    ]
+
+pub region_of-after_add : (m : Space) (r : Segment) (a : ℕ) → has_room m r.start (length r.bytes) ≡ true → region_of (after_add m r).regions a ≡ cond (has r a) (Some r) (region_of m.regions a)
+region_of-after_add m r a e =
+    let room = (and_parts _ _ (and_parts _ _ e).1).1 in
+    ⊎_elim
+    (λ some. ap (λ q. region_of q.regions a) (cond-true (ltb 0 (length r.bytes)) (record m { regions = with_region r m.regions }) m some)
+    ∙ ⊎_elim
+    (λ h. region_of-with_region_here r m.regions a room h ∙ sym (cond-true (has r a) (Some r) (region_of m.regions a) h))
+    (λ h. region_of-with_region r m.regions a h ∙ sym (cond-false (has r a) (Some r) (region_of m.regions a) h))
+    (cases_Bool (has r a)))
+    (λ none. ap (λ q. region_of q.regions a) (cond-false (ltb 0 (length r.bytes)) (record m { regions = with_region r m.regions }) m none)
+    ∙ sym (cond-false (has r a) (Some r) (region_of m.regions a) (no_byte (ltb-false _ _ none))))
+    (cases_Bool (ltb 0 (length r.bytes)))
+  where
+    no_byte : length r.bytes ≤ 0 → has r a ≡ false
+    no_byte h = ⊎_elim (λ p. let q = has-true r a p in absurd (omega (arith, q))) (λ p. p) (cases_Bool (has r a))
+
+pub guard-after_add : (m : Space) (r : Segment) → (after_add m r).guard ≡ m.guard
+guard-after_add m r =
+    elim (ltb 0 (length r.bytes)) as (λ c. (cond c (record m { regions = with_region r m.regions }) m).guard ≡ m.guard) [
+      | true ↦ refl
+      | false ↦ refl
+    ]
+
+pub IsMemory-after_add : (m : Space) (r : Segment) → AreBytes r.bytes → has_room m r.start (length r.bytes) ≡ true → IsMemory m → IsMemory (after_add m r)
+IsMemory-after_add m r bytes room w =
+    elim (ltb 0 (length r.bytes)) as (λ c. ltb 0 (length r.bytes) ≡ c → IsMemory (cond c (record m { regions = with_region r m.regions }) m)) [
+      | true ↦ λ h. IsMemory-with_region m r (record { some = ltb-true _ _ h; low = leb-true _ _ (and_parts _ _ room).0; bytes = bytes }) room w
+      | false ↦ λ h. w
+    ] refl
+
+pub IsMemory-new : IsMemory (record { regions = []; guard = None })
+IsMemory-new = record { regions = tt; guard = λ a h. refl }
+
+-- past the ends of all regions there is room
+pub misses_past : (rs : List Segment) (a n : ℕ) → EndBy rs a → misses rs a n ≡ true
+misses_past [] a n h = refl
+misses_past (r ∷ rs) a n h = and_from _ _ (le-leb _ _ (omega (arith, h.0))) (misses_past rs a n h.1)
+
+pub EndBy-with_region : (r : Segment) (rs : List Segment) (a : ℕ) → end_of r ≤ a → EndBy rs a → EndBy (with_region r rs) a
+EndBy-with_region r [] a l h = (l, tt)
+EndBy-with_region r (s ∷ rs) a l h =
+    elim (leb s.start r.start) as (λ c. EndBy (cond c (s ∷ with_region r rs) (r ∷ (s ∷ rs))) a) [
+      | true ↦ (h.0, EndBy-with_region r rs a l h.1)
+      | false ↦ (l, h)
+    ]
+
+pub EndBy-later : (rs : List Segment) (a b : ℕ) → a ≤ b → EndBy rs a → EndBy rs b
+EndBy-later [] a b l h = tt
+EndBy-later (r ∷ rs) a b l h = (omega (arith, l, h.0), EndBy-later rs a b l h.1)
+
+pub IsWriteOrExec-with_region : (r : Segment) (rs : List Segment) → (r.write && r.exec) ≡ false → IsWriteOrExec rs → IsWriteOrExec (with_region r rs)
+IsWriteOrExec-with_region r [] e h = (e, tt)
+IsWriteOrExec-with_region r (s ∷ rs) e h =
+    elim (leb s.start r.start) as (λ c. IsWriteOrExec (cond c (s ∷ with_region r rs) (r ∷ (s ∷ rs)))) [
+      | true ↦ (h.0, IsWriteOrExec-with_region r rs e h.1)
+      | false ↦ (e, h)
+    ]

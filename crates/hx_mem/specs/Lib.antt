@@ -1,3 +1,4 @@
 pub mod Segments
 pub mod Space
 pub mod Found
+pub mod Refusals

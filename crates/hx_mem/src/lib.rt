@@ -6,12 +6,15 @@
 //!
 //! Contracts see a memory as plain data, and its calls by the words of `specs/Space.antt`: `load_of`,
 //! `store_of`, `after_store` and `fetch_of`. `proofs/` has the laws of these words that a simulation
-//! cites, and `laws` states the main ones.
+//! cites, and `theorems` states the main ones.
 #![tactic(auto)]
 
 pub mod fault;
 pub mod memory;
 pub mod region;
+#[cfg(test)]
+mod tests;
+pub mod theorems;
 
 pub use fault::MemBad;
 pub use memory::{GuardRange, Memory};

@@ -37,9 +37,12 @@ impl Model for Memory {
 }
 
 impl Memory {
+    ghost use Rattle.hx_mem.specs.Space.{IsMemory};
+
     /// A memory with no region and no guard range.
     pub fn new(alloc: Global) -> Memory
-        ensures { result ≡ record { regions = []; guard = None } }
+        ensures value { result ≡ record { regions = []; guard = None } }
+        ensures whole { IsMemory result }
     {
         Memory {
             regions: Vec::new(alloc),
@@ -50,7 +53,8 @@ impl Memory {
     /// Whether a region of so many bytes may be added: it shares no address with a region of the memory
     /// or with the guard range, and ends by 2^63.
     pub fn has_room(&self, start: u64, length: u64) -> bool
-        ensures { result ≡ has_room self.now start length }
+        ensures value { result ≡ has_room self.now start length }
+        ensures whole { IsMemory self.now }
     {
         ends_low(start, length)
             && misses_guard(&self.guard, start, length)
@@ -59,7 +63,8 @@ impl Memory {
 
     /// Whether the guard range may lie there: it shares no address with a region, and ends by 2^63.
     pub fn has_room_for_guard(&self, start: u64, length: u64) -> bool
-        ensures { result ≡ has_room_for_guard self.now start length }
+        ensures value { result ≡ has_room_for_guard self.now start length }
+        ensures whole { IsMemory self.now }
     {
         ends_low(start, length) && misses_regions(&self.regions, start, length)
     }
@@ -69,11 +74,12 @@ impl Memory {
         requires { IsTrue (has_room self.old region.start (length region.bytes)) }
         ensures ok { OnOk result (self.new ≡ after_add self.old region) }
         ensures err { OnErr result (self.new ≡ self.old) }
+        ensures whole { IsMemory self.new }
     {
+        let i = started_by(&self.regions, region.start);
         if !has_any(&region.bytes) {
             return Ok(());
         }
-        let i = started_by(&self.regions, region.start);
         self.regions.insert(i, region)?;
         Ok(())
     }
@@ -81,7 +87,8 @@ impl Memory {
     /// Sets the guard range, in the place of the one before.
     pub fn guard(&mut self, start: u64, length: u64)
         requires { IsTrue (has_room_for_guard self.old start length) }
-        ensures { self.new ≡ record self.old { guard = Some (record { start = start; length = length }) } }
+        ensures after { self.new ≡ record self.old { guard = Some (record { start = start; length = length }) } }
+        ensures whole { IsMemory self.new }
     {
         self.guard = Some(GuardRange { start, length });
     }

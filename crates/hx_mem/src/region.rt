@@ -69,7 +69,8 @@ impl Region {
         ensures after { self.new ≡ put_in self.old at (bytes_of (bytes_in w) v) }
     {
         let end = self.end();
-        if w.bytes() as u64 > end - at {
+        let length = w.bytes() as u64;
+        if length > end - at {
             return Err(MemBad::Unmapped(end));
         }
         if !self.write {

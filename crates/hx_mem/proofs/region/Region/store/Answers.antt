@@ -5,8 +5,8 @@ use Rattle.std.proofs.lemmas.List.{with_items_is}
 use Rattle.hx_mem.proofs.Stored.{refused_past, refused_right, store_as}
 use Rattle.hx_mem.proofs.region.Region.store.Goals as goal
 
-pub returns-then-bytes-end-clause-after : goal.returns-then-bytes-end-clause-after
-returns-then-bytes-end-clause-after c =
+pub returns-then-length-end-clause-after : goal.returns-then-length-end-clause-after
+returns-then-length-end-clause-after c =
     sym (refused_past c.args.self.now c.args.at (bytes_in c.args.w) c.args.v (omega arith))
 
 pub returns-then-not-self-clause-after : goal.returns-then-not-self-clause-after
