@@ -176,3 +176,6 @@ fn read_whole<R: Read>(alloc: Global, reader: &mut R, most: u64) -> Result<Found
         }
     }
 }
+
+#[cfg(test)]
+mod tests;
