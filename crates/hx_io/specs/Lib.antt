@@ -4,3 +4,5 @@ pub mod Faults
 pub mod Bounded
 pub mod MemFiles
 pub mod Plan
+pub mod Known
+pub mod Waiting

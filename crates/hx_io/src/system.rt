@@ -3,8 +3,10 @@
 //! No proof says which bytes the system gives or takes. What is proved is that these calls are safe and
 //! end, that a whole file has at most the bytes that were asked for, and that a call answers that it
 //! failed only where the count rose.
-ghost use Rattle.std.specs.Prelude.{◌≡◌, ◌≤◌, false, [], None, IfOk};
-ghost use Rattle.hx_io.specs.Files.{IsWithin};
+ghost use Rattle.std.specs.Prelude.{◌≤◌, false, [], None, Some, IfOk, IfSome, OnErr};
+ghost use Rattle.hx_words.specs.Counts.{Rose, most_faults};
+ghost use Rattle.hx_io.specs.Files.{Finds, IsWithin};
+ghost use Rattle.hx_io.specs.Known.{Writes};
 
 use crate::faults::faults_after;
 use crate::outside::{Failed, Found, Sink, Source, Store, StoreFail};
@@ -40,26 +42,53 @@ impl<R> StdSource<R> {
     }
 }
 
+impl<R: Read> StdSource<R> {
+    ghost use Rattle.std.specs.Prelude.{◌≡◌, ◌≤◌, length, OnOk};
+    ghost use Rattle.std.specs.Io.KnownBytes.{Keeps, IsAtEnd};
+    ghost use Rattle.hx_io.specs.Waiting.{waiting};
+
+    /// Reads more bytes where none that were read are left.
+    fn refill(&mut self) -> Result<(), Failed>
+        ensures keeps { Keeps (waiting R.remaining self.old) (waiting R.remaining self.new) }
+        ensures at_end { OnOk result (self.new.end ≤ self.new.start → IsAtEnd (waiting R.remaining self.new)) }
+        ensures within { self.new.end ≤ length self.new.chunk }
+        ensures faults { self.new.faults ≡ self.old.faults }
+    {
+        if self.start < self.end {
+            return Ok(());
+        }
+        match self.reader.read(&mut self.chunk) {
+            Ok(count) => {
+                self.start = 0;
+                self.end = count;
+                Ok(())
+            }
+            Err(_) => Err(Failed),
+        }
+    }
+}
+
 impl<R: Read> Source for StdSource<R> {
+    ghost use Rattle.std.specs.Prelude.{◌≤◌, false, [], OnErr};
+    ghost use Rattle.hx_words.specs.Counts.{Rose, most_faults};
+    ghost use Rattle.hx_io.specs.Known.{TakesKnown};
+    ghost use Rattle.hx_io.specs.Waiting.{waiting};
+
     ghost tells = { λ _. false };
 
     ghost left = { λ _. [] };
 
     ghost faults = { λ source. source.faults };
 
-    fn next(&mut self) -> Result<Option<u8>, Failed> {
-        if self.start >= self.end {
-            match self.reader.read(&mut self.chunk) {
-                Ok(count) => {
-                    self.start = 0;
-                    self.end = count;
-                }
-                Err(_) => {
-                    self.faults = faults_after(self.faults, true);
-                    return Err(Failed);
-                }
-            }
-        }
+    fn next(&mut self) -> Result<Option<u8>, Failed>
+        ensures takes { TakesKnown (waiting R.remaining self.old) result (waiting R.remaining self.new) }
+        ensures counted { self.old.faults ≤ self.new.faults }
+        ensures bounded { self.new.faults ≤ most_faults }
+        ensures failed { OnErr result (Rose self.old.faults self.new.faults) }
+    {
+        let answer = self.refill();
+        self.faults = faults_after(self.faults, answer.is_err());
+        answer?;
         if self.start >= self.end {
             return Ok(None);
         }
@@ -91,7 +120,12 @@ impl<W: Write> Sink for StdSink<W> {
 
     ghost faults = { λ sink. sink.faults };
 
-    fn put(&mut self, piece: &[u8]) -> Result<(), Failed> {
+    fn put(&mut self, piece: &[u8]) -> Result<(), Failed>
+        ensures writes { Writes (W.contents self.old.writer) piece.now result (W.contents self.new.writer) }
+        ensures counted { self.old.faults ≤ self.new.faults }
+        ensures bounded { self.new.faults ≤ most_faults }
+        ensures failed { OnErr result (Rose self.old.faults self.new.faults) }
+    {
         let answer = write_whole(&mut self.writer, piece);
         self.faults = faults_after(self.faults, answer.is_err());
         answer
@@ -140,7 +174,9 @@ impl<R: Files> Store for FileStore<R> {
 }
 
 /// Writes all the bytes, in as many writes as it takes.
-fn write_whole<W: Write>(writer: &mut W, bytes: &[u8]) -> Result<(), Failed> {
+fn write_whole<W: Write>(writer: &mut W, bytes: &[u8]) -> Result<(), Failed>
+    ensures { Writes (W.contents writer.old) bytes.now result (W.contents writer.new) }
+{
     let mut rest = bytes;
     while !rest.is_empty() {
         match writer.write(rest) {
@@ -153,7 +189,8 @@ fn write_whole<W: Write>(writer: &mut W, bytes: &[u8]) -> Result<(), Failed> {
 
 /// Reads to the end, but at most `most + 1` bytes.
 fn read_whole<R: Read>(alloc: Global, reader: &mut R, most: u64) -> Result<Found, StoreFail>
-    ensures { IfOk result (IsWithin most) }
+    ensures within { IfOk result (IsWithin most) }
+    ensures finds { IfSome (R.remaining reader.old) (λ left. Finds (Some left) most result) }
 {
     let mut bytes = Vec::new(alloc);
     let mut chunk = [0; CHUNK];
@@ -176,3 +213,6 @@ fn read_whole<R: Read>(alloc: Global, reader: &mut R, most: u64) -> Result<Found
         }
     }
 }
+
+#[cfg(test)]
+mod tests;
