@@ -59,10 +59,10 @@ abbrev pub IsImage : List ℕ → List ℕ → ℕ → Type 0
 IsImage image puts status =
     (n : ℕ) → 8 * (length puts + 1) ≤ n → flat_run image n ≡ record { output = output_of puts; after = Ends (ExitEnd (status % 256)) }
 
--- the image belongs to the unit that the store held
-pub record IsBuilt (files : StoreCall) (names : Names) (image puts : List ℕ) (status : ℕ) : Type 0 where
+-- the image belongs to the unit that the store held, where it tells
+pub record IsBuilt (told : Bool) (before : Files) (names : Names) (image puts : List ℕ) (status : ℕ) : Type 0 where
   pub source : List ℕ
-  pub held : IsTrue files.told → files.before names.unit ≡ Some source
+  pub held : IsTrue told → before names.unit ≡ Some source
   pub unit : IsUnit source puts status
   pub image_runs : IsImage image puts status
 
@@ -84,15 +84,35 @@ pub record IsSaved (files : StoreCall) (names : Names) (image : List ℕ) : Type
 abbrev pub MaySave : StoreCall → Names → Type 0
 MaySave files names =
     NothingSaved files ⊎
-    ((image : List ℕ) × (puts : List ℕ) × (status : ℕ) × IsBuilt files names image puts status × IsPartlySaved files names image)
+    ((image : List ℕ) × (puts : List ℕ) × (status : ℕ) × IsBuilt files.told files.before names image puts status × IsPartlySaved files names image)
 
 -- an image of the unit was saved
 pub record HasImage (files : StoreCall) (names : Names) : Type 0 where
   pub image : List ℕ
   pub puts : List ℕ
   pub status : ℕ
-  pub built : IsBuilt files names image puts status
+  pub built : IsBuilt files.told files.before names image puts status
   pub saved : IsSaved files names image
+
+-- what a run of an image of such a unit answers and puts
+abbrev pub RunStands : List ℕ → ℕ → SinkCall → Report → Type 0
+RunStands puts status output (Guest outcome) = (outcome ≡ Exit (status % 256)) × (IsTrue output.told → output.after ≡ output.before ++ output_of puts)
+RunStands puts status output WriteFault = SinkRose output × (IsTrue output.told → AppendsPrefix output.before (output_of puts) output.after)
+RunStands puts status output NoMemory = IsTrue output.told → output.after ≡ output.before
+RunStands puts status output StoreFault = ⊥
+RunStands puts status output NotBuilt = ⊥
+RunStands puts status output (Missing name) = ⊥
+RunStands puts status output Usage = ⊥
+
+-- the report that the name isn't there, or that memory ran out
+abbrev pub IsMissing : List ℕ → Report → Type 0
+IsMissing unit (Missing name) = name.items ≡ unit
+IsMissing unit NoMemory = Unit {0}
+IsMissing unit Usage = ⊥
+IsMissing unit NotBuilt = ⊥
+IsMissing unit StoreFault = ⊥
+IsMissing unit WriteFault = ⊥
+IsMissing unit (Guest outcome) = ⊥
 
 -- What stands after each report that the command `exec` with these names has of its own.
 abbrev pub ExecStands : Names → StoreCall → SinkCall → Report → Type 0

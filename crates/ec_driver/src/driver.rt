@@ -1,11 +1,13 @@
 //! The top call.
 
-ghost use Rattle.std.specs.Prelude.{◌≡◌, ◌≤◌, IsTrue, IfOk, map, string_bytes, length};
-ghost use Rattle.ec_driver.specs.Answers.{Answers, Stands, Tells};
+ghost use Rattle.std.specs.Prelude.{◌≡◌, ◌≤◌, ◌<◌, ◌+◌, ◌*◌, ◌^◌, ◌⊎◌, ℕ, List, IsTrue, IfOk, Some, map, string_bytes, length};
+ghost use Rattle.ec_driver.specs.declared.report.Report.{Report as ReportValue};
+ghost use Rattle.ec_driver.specs.Reports.{line_of};
+ghost use Rattle.ec_driver.specs.Answers.{Answers, ExecStands, Stands, Tells, IsBuilt, IsImage, RunStands, IsMissing};
 
 use crate::report::{Outcome, Report, line};
 use crate::words::{ExecWords, command};
-use first_form::{FirstUnit, code, parse};
+use first_form::{code, parse};
 use flat_machine::ends::RunEnd;
 use flat_machine::run::run;
 use hx_io::{Found, Sink, Source, Store, StoreFail};
@@ -40,11 +42,28 @@ pub fn ecc<S: Store, I: Source, O: Sink, E: Sink>(
     ensures input { input.new ≡ input.old }
 {
     let _ = input;
-    let own = match command(words) {
+    let own = answer(alloc, words, store, out);
+    tell(alloc, own, notes)
+}
+
+/// Does what the words say, and gives its report.
+fn answer<S: Store, O: Sink>(
+    alloc: Global,
+    words: &[String],
+    store: &mut S,
+    out: &mut O,
+) -> Report
+    ensures {
+        Stands (map string_bytes words.now)
+        (record { told = S.tells store.old; before = S.file store.old; after = S.file store.new; faults_before = S.faults store.old; faults_after = S.faults store.new })
+        (record { told = O.tells out.old; before = O.bytes out.old; after = O.bytes out.new; faults_before = O.faults out.old; faults_after = O.faults out.new })
+        result
+    }
+{
+    match command(words) {
         None => Report::Usage,
         Some(names) => exec(alloc, names, store, out),
-    };
-    tell(alloc, own, notes)
+    }
 }
 
 /// Tells a report by its line, and gives what is told.
@@ -97,5 +116,89 @@ fn exec<S: Store, O: Sink>(
         Ok(Found::Missing) => missing(alloc, names.unit),
         Ok(Found::Longer) => Report::NotBuilt,
         Ok(Found::Whole(source)) => build(alloc, &source, names, store, out),
+    }
+}
+
+/// The report that a unit isn't there.
+fn missing(alloc: Global, unit: &str) -> Report
+    ensures { IsMissing unit.now result }
+{
+    match Vec::from_slice(alloc, unit.as_bytes()) {
+        Ok(name) => Report::Missing(name),
+        Err(_) => Report::NoMemory,
+    }
+}
+
+/// Compiles a unit, saves its image and runs it.
+fn build<S: Store, O: Sink>(
+    alloc: Global,
+    source: &[u8],
+    names: ExecWords<'_>,
+    store: &mut S,
+    out: &mut O,
+) -> Report
+    requires held { IsTrue (S.tells store.old) → S.file store.old names.unit.now ≡ Some source.now }
+    requires short { length source.now ≤ 1048576 }
+    ensures {
+        ExecStands (record { unit = names.entry.unit.now; image = names.entry.image.now })
+        (record { told = S.tells store.old; before = S.file store.old; after = S.file store.new; faults_before = S.faults store.old; faults_after = S.faults store.new })
+        (record { told = O.tells out.old; before = O.bytes out.old; after = O.bytes out.new; faults_before = O.faults out.old; faults_after = O.faults out.new })
+        result
+    }
+{
+    let unit = match parse(alloc, source) {
+        Ok(Some(unit)) => unit,
+        Ok(None) => return Report::NotBuilt,
+        Err(_) => return Report::NoMemory,
+    };
+    match code(alloc, &unit) {
+        Ok(image) => save(alloc, &image, names, store, out),
+        Err(_) => Report::NoMemory,
+    }
+}
+
+/// Saves an image and runs it.
+fn save<S: Store, O: Sink>(
+    alloc: Global,
+    image: &[u8],
+    names: ExecWords<'_>,
+    store: &mut S,
+    out: &mut O,
+) -> Report
+    requires { length image.now < 2 ^ 32 }
+    ensures {
+        (puts : List ℕ) (status : ℕ)
+        → IsBuilt (S.tells store.old) (S.file store.old) (record { unit = names.entry.unit.now; image = names.entry.image.now }) image.now puts status
+        → ExecStands (record { unit = names.entry.unit.now; image = names.entry.image.now })
+        (record { told = S.tells store.old; before = S.file store.old; after = S.file store.new; faults_before = S.faults store.old; faults_after = S.faults store.new })
+        (record { told = O.tells out.old; before = O.bytes out.old; after = O.bytes out.new; faults_before = O.faults out.old; faults_after = O.faults out.new })
+        result
+    }
+{
+    match store.save(alloc, names.image, image) {
+        Ok(()) => run_image(alloc, image, out),
+        Err(StoreFail::Failed) => Report::StoreFault,
+        Err(StoreFail::NoMemory) => Report::NoMemory,
+    }
+}
+
+/// Runs an image.
+fn run_image<O: Sink>(alloc: Global, image: &[u8], out: &mut O) -> Report
+    requires { length image.now < 2 ^ 32 }
+    ensures {
+        (puts : List ℕ) (status : ℕ) → IsImage image.now puts status → 8 * (length puts + 1) ≤ 100000000
+        → RunStands puts status
+        (record { told = O.tells out.old; before = O.bytes out.old; after = O.bytes out.new; faults_before = O.faults out.old; faults_after = O.faults out.new })
+        result
+    }
+{
+    match run(alloc, image, out, FUEL) {
+        Ok(RunEnd::Exit(k)) => Report::Guest(Outcome::Exit(k)),
+        Ok(RunEnd::Trap(k)) => Report::Guest(Outcome::Trap(k)),
+        Ok(RunEnd::Budget) => Report::Guest(Outcome::Budget),
+        Ok(RunEnd::StackSpent) => Report::Guest(Outcome::StackSpent),
+        Ok(RunEnd::Stuck(why, pc)) => Report::Guest(Outcome::Stuck(why, pc)),
+        Ok(RunEnd::WriteFault) => Report::WriteFault,
+        Err(_) => Report::NoMemory,
     }
 }

@@ -7,7 +7,7 @@ use Rattle.reg_map.specs.Registers.{Registers, x64_value, with_x64}
 use Rattle.x64_exec.specs.declared.event.XEvent.TheVariants.{CallTo, Fault}
 use Rattle.x64_exec.specs.declared.event.XFault.TheVariants.{Memory}
 use Rattle.x64_exec.specs.Words.{Effect, word, minus, stored, faults, calls}
-use Rattle.x64_exec.proofs.Refused.{after_store-refused}
+use Rattle.hx_mem.proofs.Laws.{after_refused}
 
 abbrev called : ℕ → Registers → Space → Effect
 called target cpu mem = record { cpu = record cpu { pc = target }; mem = mem; event = CallTo target }
@@ -23,5 +23,5 @@ pub calls-refused : (target len sp next : ℕ) (cpu : Registers) (mem after : Sp
 calls-refused target len sp next cpu mem after bad below refusal memory =
     let answer : store_of mem (minus (x64_value cpu Rsp) 8) 8 ≡ Err bad = subst (λ k. store_of mem k 8 ≡ Err bad) below refusal in
     let at : Effect = called target (with_x64 cpu Rsp (minus (x64_value cpu Rsp) 8)) (after_store mem (minus (x64_value cpu Rsp) 8) 8 (word (cpu.pc + len))) in
-    ap (faults (Memory bad) cpu) (memory ∙ after_store-refused mem sp 8 next bad refusal)
+    ap (faults (Memory bad) cpu) (memory ∙ after_refused mem sp 8 next bad refusal)
     ∙ ap (λ (r : Result (Unit {0}) MemBad). stored r cpu mem at) (sym answer)
