@@ -1,3 +1,4 @@
 pub mod Blocks
 pub mod FirstRuns
 pub mod Driving
+pub mod Claims

@@ -157,3 +157,24 @@ pub record Answers (words : List (List ℕ)) (files : StoreCall) (output line : 
   pub told : Report
   pub told_is : (told ≡ own) ⊎ (told ≡ NoMemory)
   pub tells : Tells told line report
+
+-- What stands after `exit k`: the words are a command; the unit that the store held, where it tells, is of
+-- the first form; k is its status's low 8 bits; its output was put; its image was saved, and runs so.
+pub record Exited (words : List (List ℕ)) (files : StoreCall) (output : SinkCall) (k : ℕ) : Type 0 where
+  pub names : Names
+  pub command : command_of words ≡ Some names
+  pub image : HasImage files names
+  pub status : k ≡ image.status % 256
+  pub put : IsTrue output.told → output.after ≡ output.before ++ output_of image.puts
+
+-- the store held such a unit under the name that the words say, and no count of faults rose
+pub record IsGood (words : List (List ℕ)) (files : StoreCall) (output line : SinkCall) (puts : List ℕ) (status : ℕ) : Type 0 where
+  pub names : Names
+  pub command : command_of words ≡ Some names
+  pub told : IsTrue files.told
+  pub source : List ℕ
+  pub held : files.before names.unit ≡ Some source
+  pub unit : IsUnit source puts status
+  pub store_worked : ¬ StoreRose files
+  pub output_worked : ¬ SinkRose output
+  pub line_worked : ¬ SinkRose line

@@ -1,9 +1,9 @@
 //! The top call.
 
-ghost use Rattle.std.specs.Prelude.{◌≡◌, ◌≤◌, ◌<◌, ◌+◌, ◌*◌, ◌^◌, ◌⊎◌, ℕ, List, IsTrue, IfOk, Some, map, string_bytes, length};
+ghost use Rattle.std.specs.Prelude.{◌≡◌, ◌≤◌, ◌<◌, ◌+◌, ◌*◌, ◌%◌, ◌^◌, ◌⊎◌, ℕ, List, IsTrue, IfOk, Some, map, string_bytes, length};
 ghost use Rattle.ec_driver.specs.declared.report.Report.{Report as ReportValue};
 ghost use Rattle.ec_driver.specs.Reports.{line_of};
-ghost use Rattle.ec_driver.specs.Answers.{Answers, ExecStands, Stands, Tells, IsBuilt, IsImage, RunStands, IsMissing};
+ghost use Rattle.ec_driver.specs.Answers.{Answers, ExecStands, Stands, Tells, IsBuilt, IsImage, RunStands, IsMissing, Exited, IsGood};
 
 use crate::report::{Outcome, Report, line};
 use crate::words::{ExecWords, command};
@@ -32,12 +32,29 @@ pub fn ecc<S: Store, I: Source, O: Sink, E: Sink>(
     out: &mut O,
     notes: &mut E,
 ) -> Report
+    // The report, and what stands after it: the words, the files, the output and the line.
     ensures answers {
         Answers (map string_bytes words.now)
         (record { told = S.tells store.old; before = S.file store.old; after = S.file store.new; faults_before = S.faults store.old; faults_after = S.faults store.new })
         (record { told = O.tells out.old; before = O.bytes out.old; after = O.bytes out.new; faults_before = O.faults out.old; faults_after = O.faults out.new })
         (record { told = E.tells notes.old; before = E.bytes notes.old; after = E.bytes notes.new; faults_before = E.faults notes.old; faults_after = E.faults notes.new })
         result
+    }
+    // After `exit k` the unit, its output, its status and its saved image are what they should be.
+    ensures exit {
+        (k : ℕ) → result ≡ Report.Guest (Outcome.Exit k) → Exited (map string_bytes words.now)
+        (record { told = S.tells store.old; before = S.file store.old; after = S.file store.new; faults_before = S.faults store.old; faults_after = S.faults store.new })
+        (record { told = O.tells out.old; before = O.bytes out.old; after = O.bytes out.new; faults_before = O.faults out.old; faults_after = O.faults out.new })
+        k
+    }
+    // A unit of the first form and no count that rises give its exit, or want of memory.
+    ensures completes {
+        (puts : List ℕ) (status : ℕ) → IsGood (map string_bytes words.now)
+        (record { told = S.tells store.old; before = S.file store.old; after = S.file store.new; faults_before = S.faults store.old; faults_after = S.faults store.new })
+        (record { told = O.tells out.old; before = O.bytes out.old; after = O.bytes out.new; faults_before = O.faults out.old; faults_after = O.faults out.new })
+        (record { told = E.tells notes.old; before = E.bytes notes.old; after = E.bytes notes.new; faults_before = E.faults notes.old; faults_after = E.faults notes.new })
+        puts status
+        → (result ≡ Report.Guest (Outcome.Exit (status % 256))) ⊎ (result ≡ Report.NoMemory)
     }
     ensures input { input.new ≡ input.old }
 {
