@@ -93,7 +93,7 @@ call_runs image k service a n g rest ready low stands va vs vc =
     let here : image_base + (k + 10 + 10) ≡ image_base + (k + 20) = omega arith in
     run_goes (length image) (suc (suc n)) g at_second (mov_step image k a Rcx g _ ready.has ready.place (omega arith) stands va (mov_rcx_size a))
     ∙ run_goes (length image) (suc n) at_second (set Rax service (image_base + (k + 20)) at_second)
-        (mov_step image (k + 10) service Rax at_second _ ready.has refl (omega arith) second vs (mov_rax_size service) ∙ ap (λ p. quiet (Goes (set Rax service p at_second))) here)
+    (mov_step image (k + 10) service Rax at_second _ ready.has refl (omega arith) second vs (mov_rax_size service) ∙ ap (λ p. quiet (Goes (set Rax service p at_second))) here)
     ∙ run_goes (length image) n (set Rax service (image_base + (k + 20)) at_second) (called service a k g) (call_step image k service a g rest ready (omega arith) third vc)
 
 -- what stands behind a call
@@ -128,7 +128,7 @@ unfolding step_of
 put_step image k a g ready low =
     let back : (image_base + (k + 22)) % 256 ^ 8 ≡ image_base + (k + 22) = omega arith in
     let loaded : load_of (after_store g.mem below_sp 8 (image_base + (k + 22))) below_sp 8 ≡ Ok (image_base + (k + 22)) =
-        load_after_store g.mem below_sp 8 (image_base + (k + 22)) (store_ok-writable g.mem below_sp 8 ready.room) ∙ ap (λ v. Ok v) back in
+    load_after_store g.mem below_sp 8 (image_base + (k + 22)) (store_ok-writable g.mem below_sp 8 ready.room) ∙ ap (λ v. Ok v) back in
     ap (λ (r : Result ℕ MemBad). returned r (a % 256 ∷ []) (called (services_base + 48) a k g).cpu (called (services_base + 48) a k g)) loaded
 
 -- the run ends

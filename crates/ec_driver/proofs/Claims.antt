@@ -57,9 +57,11 @@ completes words files output line r a puts status g = by (report_is words files 
   where
     stands : ExecStands g.names files output a.own
     stands = subst (λ (o : Option Names). MatchOption o ((a.own ≡ Usage) × NothingSaved files × (output.after ≡ output.before)) (λ names. ExecStands names files output a.own)) g.command a.stands
+
     own : (r ≡ a.own) → (a.own ≡ Guest (Exit (status % 256))) ⊎ (a.own ≡ NoMemory) → (r ≡ Guest (Exit (status % 256))) ⊎ (r ≡ NoMemory)
     own e (inl is) = inl (e ∙ is)
     own e (inr none) = inr (e ∙ none)
+
     by : (r ≡ a.own) ⊎ ((r ≡ NoMemory) ⊎ ((r ≡ WriteFault) × SinkRose line)) → (r ≡ Guest (Exit (status % 256))) ⊎ (r ≡ NoMemory)
     by (inl e) = own e (good_own words files output line puts status g.names a.own g refl stands)
     by (inr (inl none)) = inr none

@@ -85,8 +85,13 @@ kept_later first later name image l kept t =
 may_later : (first later : StoreCall) (names : Names) → Loaded first later → MaySave later names → MaySave first names
 may_later first later names l (inl nothing) = inl (nothing_later first later l nothing)
 may_later first later names l (inr (image, puts, status, built, partly)) =
-    inr (image, puts, status, built_later first later names image puts status l built,
-    record { others = others_later first later names.image l partly.others; kept = kept_later first later names.image image l partly.kept })
+    inr (
+      image,
+      puts,
+      status,
+      built_later first later names image puts status l built,
+      record { others = others_later first later names.image l partly.others; kept = kept_later first later names.image image l partly.kept },
+    )
 
 image_later : (first later : StoreCall) (names : Names) → Loaded first later → HasImage later names → HasImage first names
 image_later first later names l h = record {

@@ -33,29 +33,23 @@ pub fn ecc<S: Store, I: Source, O: Sink, E: Sink>(
     notes: &mut E,
 ) -> Report
     // The report, and what stands after it: the words, the files, the output and the line.
-    ensures answers {
-        Answers (map string_bytes words.now)
+    ensures answers { Answers (map string_bytes words.now)
         (record { told = S.tells store.old; before = S.file store.old; after = S.file store.new; faults_before = S.faults store.old; faults_after = S.faults store.new })
         (record { told = O.tells out.old; before = O.bytes out.old; after = O.bytes out.new; faults_before = O.faults out.old; faults_after = O.faults out.new })
         (record { told = E.tells notes.old; before = E.bytes notes.old; after = E.bytes notes.new; faults_before = E.faults notes.old; faults_after = E.faults notes.new })
-        result
-    }
+        result }
     // After `exit k` the unit, its output, its status and its saved image are what they should be.
-    ensures exit {
-        (k : ℕ) → result ≡ Report.Guest (Outcome.Exit k) → Exited (map string_bytes words.now)
+    ensures exit { (k : ℕ) → result ≡ Report.Guest (Outcome.Exit k) → Exited (map string_bytes words.now)
         (record { told = S.tells store.old; before = S.file store.old; after = S.file store.new; faults_before = S.faults store.old; faults_after = S.faults store.new })
         (record { told = O.tells out.old; before = O.bytes out.old; after = O.bytes out.new; faults_before = O.faults out.old; faults_after = O.faults out.new })
-        k
-    }
+        k }
     // A unit of the first form and no count that rises give its exit, or want of memory.
-    ensures completes {
-        (puts : List ℕ) (status : ℕ) → IsGood (map string_bytes words.now)
+    ensures completes { (puts : List ℕ) (status : ℕ) → IsGood (map string_bytes words.now)
         (record { told = S.tells store.old; before = S.file store.old; after = S.file store.new; faults_before = S.faults store.old; faults_after = S.faults store.new })
         (record { told = O.tells out.old; before = O.bytes out.old; after = O.bytes out.new; faults_before = O.faults out.old; faults_after = O.faults out.new })
         (record { told = E.tells notes.old; before = E.bytes notes.old; after = E.bytes notes.new; faults_before = E.faults notes.old; faults_after = E.faults notes.new })
         puts status
-        → (result ≡ Report.Guest (Outcome.Exit (status % 256))) ⊎ (result ≡ Report.NoMemory)
-    }
+        → (result ≡ Report.Guest (Outcome.Exit (status % 256))) ⊎ (result ≡ Report.NoMemory) }
     ensures input { input.new ≡ input.old }
 {
     let _ = input;
@@ -64,18 +58,11 @@ pub fn ecc<S: Store, I: Source, O: Sink, E: Sink>(
 }
 
 /// Does what the words say, and gives its report.
-fn answer<S: Store, O: Sink>(
-    alloc: Global,
-    words: &[String],
-    store: &mut S,
-    out: &mut O,
-) -> Report
-    ensures {
-        Stands (map string_bytes words.now)
+fn answer<S: Store, O: Sink>(alloc: Global, words: &[String], store: &mut S, out: &mut O) -> Report
+    ensures { Stands (map string_bytes words.now)
         (record { told = S.tells store.old; before = S.file store.old; after = S.file store.new; faults_before = S.faults store.old; faults_after = S.faults store.new })
         (record { told = O.tells out.old; before = O.bytes out.old; after = O.bytes out.new; faults_before = O.faults out.old; faults_after = O.faults out.new })
-        result
-    }
+        result }
 {
     match command(words) {
         None => Report::Usage,
@@ -85,11 +72,9 @@ fn answer<S: Store, O: Sink>(
 
 /// Tells a report by its line, and gives what is told.
 fn tell<E: Sink>(alloc: Global, own: Report, notes: &mut E) -> Report
-    ensures {
-        (told : ReportValue) × ((told ≡ own) ⊎ (told ≡ Report.NoMemory)) × Tells told
+    ensures { (told : ReportValue) × ((told ≡ own) ⊎ (told ≡ Report.NoMemory)) × Tells told
         (record { told = E.tells notes.old; before = E.bytes notes.old; after = E.bytes notes.new; faults_before = E.faults notes.old; faults_after = E.faults notes.new })
-        result
-    }
+        result }
 {
     let given = match line(alloc, &own) {
         Ok(text) => return put_line(own, &text, notes),
@@ -101,11 +86,9 @@ fn tell<E: Sink>(alloc: Global, own: Report, notes: &mut E) -> Report
 /// Puts the line of a report.
 fn put_line<E: Sink>(report: Report, text: &[u8], notes: &mut E) -> Report
     requires { text.now ≡ line_of report }
-    ensures {
-        Tells report
+    ensures { Tells report
         (record { told = E.tells notes.old; before = E.bytes notes.old; after = E.bytes notes.new; faults_before = E.faults notes.old; faults_after = E.faults notes.new })
-        result
-    }
+        result }
 {
     match notes.put(text) {
         Ok(()) => report,
@@ -120,12 +103,10 @@ fn exec<S: Store, O: Sink>(
     store: &mut S,
     out: &mut O,
 ) -> Report
-    ensures {
-        ExecStands (record { unit = names.entry.unit.now; image = names.entry.image.now })
+    ensures { ExecStands (record { unit = names.entry.unit.now; image = names.entry.image.now })
         (record { told = S.tells store.old; before = S.file store.old; after = S.file store.new; faults_before = S.faults store.old; faults_after = S.faults store.new })
         (record { told = O.tells out.old; before = O.bytes out.old; after = O.bytes out.new; faults_before = O.faults out.old; faults_after = O.faults out.new })
-        result
-    }
+        result }
 {
     match store.load(alloc, names.unit, MOST_UNIT) {
         Err(StoreFail::Failed) => Report::StoreFault,
@@ -156,12 +137,10 @@ fn build<S: Store, O: Sink>(
 ) -> Report
     requires held { IsTrue (S.tells store.old) → S.file store.old names.unit.now ≡ Some source.now }
     requires short { length source.now ≤ 1048576 }
-    ensures {
-        ExecStands (record { unit = names.entry.unit.now; image = names.entry.image.now })
+    ensures { ExecStands (record { unit = names.entry.unit.now; image = names.entry.image.now })
         (record { told = S.tells store.old; before = S.file store.old; after = S.file store.new; faults_before = S.faults store.old; faults_after = S.faults store.new })
         (record { told = O.tells out.old; before = O.bytes out.old; after = O.bytes out.new; faults_before = O.faults out.old; faults_after = O.faults out.new })
-        result
-    }
+        result }
 {
     let unit = match parse(alloc, source) {
         Ok(Some(unit)) => unit,
@@ -183,14 +162,12 @@ fn save<S: Store, O: Sink>(
     out: &mut O,
 ) -> Report
     requires { length image.now < 2 ^ 32 }
-    ensures {
-        (puts : List ℕ) (status : ℕ)
+    ensures { (puts : List ℕ) (status : ℕ)
         → IsBuilt (S.tells store.old) (S.file store.old) (record { unit = names.entry.unit.now; image = names.entry.image.now }) image.now puts status
         → ExecStands (record { unit = names.entry.unit.now; image = names.entry.image.now })
         (record { told = S.tells store.old; before = S.file store.old; after = S.file store.new; faults_before = S.faults store.old; faults_after = S.faults store.new })
         (record { told = O.tells out.old; before = O.bytes out.old; after = O.bytes out.new; faults_before = O.faults out.old; faults_after = O.faults out.new })
-        result
-    }
+        result }
 {
     match store.save(alloc, names.image, image) {
         Ok(()) => run_image(alloc, image, out),
@@ -202,12 +179,10 @@ fn save<S: Store, O: Sink>(
 /// Runs an image.
 fn run_image<O: Sink>(alloc: Global, image: &[u8], out: &mut O) -> Report
     requires { length image.now < 2 ^ 32 }
-    ensures {
-        (puts : List ℕ) (status : ℕ) → IsImage image.now puts status → 8 * (length puts + 1) ≤ 100000000
+    ensures { (puts : List ℕ) (status : ℕ) → IsImage image.now puts status → 8 * (length puts + 1) ≤ 100000000
         → RunStands puts status
         (record { told = O.tells out.old; before = O.bytes out.old; after = O.bytes out.new; faults_before = O.faults out.old; faults_after = O.faults out.new })
-        result
-    }
+        result }
 {
     match run(alloc, image, out, FUEL) {
         Ok(RunEnd::Exit(k)) => Report::Guest(Outcome::Exit(k)),

@@ -3,4 +3,6 @@
 
 pub mod driver;
 pub mod report;
+#[cfg(test)]
+mod tests;
 pub mod words;

@@ -24,16 +24,18 @@ fn is_operand(word: &str) -> bool
 
 /// The command that the words are: exactly `exec`, UNIT, `-o` and IMAGE; None for all other words.
 pub fn command(words: &[String]) -> Option<ExecWords<'_>>
-    ensures {
-        MatchOption result (command_of (map string_bytes words.now) ≡ None)
-        (λ c. command_of (map string_bytes words.now) ≡ Some (record { unit = c.unit.now; image = c.image.now }))
-    }
+    ensures { MatchOption result (command_of (map string_bytes words.now) ≡ None)
+        (λ c. command_of (map string_bytes words.now) ≡ Some (record { unit = c.unit.now; image = c.image.now })) }
 {
     match words {
         [exec, unit, option, image] => {
             let unit = unit.as_str();
             let image = image.as_str();
-            if exec.as_str() == "exec" && option.as_str() == "-o" && is_operand(unit) && is_operand(image) {
+            if exec.as_str() == "exec"
+                && option.as_str() == "-o"
+                && is_operand(unit)
+                && is_operand(image)
+            {
                 return Some(ExecWords { unit, image });
             }
             None
