@@ -28,6 +28,13 @@ fn main(rt: HostRuntime) -> ExitCode {
     let mut input = StdSource::new(rt.stdin());
     let mut out = StdSink::new(rt.stdout());
     let mut notes = StdSink::new(rt.stderr());
-    let report = ecc(rt.alloc(), &words, &mut store, &mut input, &mut out, &mut notes);
+    let report = ecc(
+        rt.alloc(),
+        &words,
+        &mut store,
+        &mut input,
+        &mut out,
+        &mut notes,
+    );
     ExitCode::from(status_of(&report))
 }

@@ -7,7 +7,6 @@ use Rattle.reg_map.specs.Registers.{Registers, x64_value, with_x64}
 use Rattle.x64_exec.specs.Words.{word}
 use Rattle.flat_machine.specs.Steps.{Guest, After, Goes, returned, returns}
 
-
 pub returns-after : (put : List ℕ) (sp target : ℕ) (cpu new : Registers) (g : Guest) → sp ≡ x64_value g.cpu Rsp → x64_value cpu Rsp ≡ x64_value g.cpu Rsp → load_of g.mem sp 8 ≡ Ok target → new ≡ with_x64 cpu Rsp (word (sp + 8)) → (returns put cpu g).after ≡ Goes (record { cpu = record new { pc = target }; mem = g.mem })
 returns-after put sp target cpu new g at kept loaded registers =
     let answer : load_of g.mem (x64_value g.cpu Rsp) 8 ≡ Ok target = subst (λ a. load_of g.mem a 8 ≡ Ok target) at loaded in

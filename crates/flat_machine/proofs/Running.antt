@@ -1,7 +1,5 @@
 -- A run as its steps go on.
 use Rattle.std.proofs.Common.{◌≡◌, ℕ, zero, suc, ◌+◌, ◌-◌, ◌<◌, ◌≤◌, Bool, List, [], ◌∷◌, ◌++◌, length, append_assoc, append-nil, refl, sym, ap, ap₂, subst, ◌∙◌, arith, IsTrue, Option, Some, None, Result, Ok, Err}
-
-
 use Rattle.hx_words.specs.Prefixes.{IsPrefix}
 use Rattle.hx_io.specs.Streams.{AppendsPrefix}
 use Rattle.flat_machine.specs.declared.ends.RunEnd.{RunEnd}
@@ -83,8 +81,8 @@ part_put whole size n turn g tells start old now h p t (kept, (tail, front), is)
     let put : List ℕ = (step_of size g).put in
     let b : (more : List ℕ) × ((next size (n - (turn + 1)) g).output ≡ put ++ more) = begun put (step_of size g).after (run_from size (n - (turn + 1))) in
     let all : whole.output ≡ (p.output ++ kept) ++ (tail ++ b.0) =
-        ap output_of p.ran ∙ ap (λ (r : Run). p.output ++ r.output) (unrolled size n turn g h) ∙ ap (λ (o : List ℕ). p.output ++ o) (b.1 ∙ ap (λ (o : List ℕ). o ++ b.0) front ∙ append_assoc kept tail b.0)
-        ∙ sym (append_assoc p.output kept (tail ++ b.0)) in
+    ap output_of p.ran ∙ ap (λ (r : Run). p.output ++ r.output) (unrolled size n turn g h) ∙ ap (λ (o : List ℕ). p.output ++ o) (b.1 ∙ ap (λ (o : List ℕ). o ++ b.0) front ∙ append_assoc kept tail b.0)
+    ∙ sym (append_assoc p.output kept (tail ++ b.0)) in
     (p.output ++ kept, (tail ++ b.0, all), is ∙ ap (λ (o : List ℕ). o ++ kept) (p.put t) ∙ append_assoc start p.output kept)
 
 pub ends_put : (whole : Run) (size n turn : ℕ) (g new : Guest) (tells : Bool) (start old now : List ℕ) (e : RunEnd) → turn < n → Progress whole (run_from size (n - turn) g) tells start old → Moves (Some e) (step_of size g).after new → IsTrue tells → StepPuts (Some e) old (step_of size g).put now → PutsAs e start whole.output now
@@ -103,7 +101,6 @@ pub spent_put : (whole : Run) (size n turn : ℕ) (g : Guest) (tells : Bool) (st
 spent_put whole size n turn g tells start now h p t =
     let none : run_from size (n - turn) g ≡ record { output = []; after = Goes g } = ap (λ k. run_from size k g) (let e : n - turn ≡ 0 = omega arith in e) ∙ run_from-none size g in
     p.put t ∙ ap (λ (o : List ℕ). start ++ o) (sym (ap output_of p.ran ∙ ap (λ (r : Run). p.output ++ r.output) none ∙ append-nil p.output))
-
 
 -- the size of the image is that of every state
 pub resized : (whole : Run) (size other n : ℕ) (g : Guest) (tells : Bool) (start now : List ℕ) → other ≡ size → Progress whole (run_from size n g) tells start now → Progress whole (run_from other n g) tells start now

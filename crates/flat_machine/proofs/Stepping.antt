@@ -51,14 +51,13 @@ within image k i rest valid e =
     let whole : length (drop k image) ≡ length (spell_of i) + length rest = ap (λ (xs : List ℕ). length xs) e ∙ length-append (spell_of i) rest in
     omega (arith, length-drop k image)
 
-
 abbrev front_of : List ℕ → Result (List ℕ) MemBad
 front_of xs = Ok (take 15 xs)
 
 found : (image : List ℕ) (k : ℕ) (g : Guest) (i : XInstr) (rest : List ℕ) → HasCode image g.mem → g.cpu.pc ≡ image_base + k → drop k image ≡ spell_of i ++ rest → Valid i → found_at g ≡ Some (i, length (spell_of i))
 found image k g i rest has at stands valid =
     let fetched : fetch_of g.mem g.cpu.pc 15 ≡ Ok (take 15 (spell_of i ++ rest)) =
-        ap (λ a. fetch_of g.mem a 15) at ∙ fetch_of_code g.mem (image_base + k) 15 _ (has.code k 15 (within image k i rest valid stands)) ∙ ap front_of stands in
+    ap (λ a. fetch_of g.mem a 15) at ∙ fetch_of_code g.mem (image_base + k) 15 _ (has.code k 15 (within image k i rest valid stands)) ∙ ap front_of stands in
     ap read_from fetched ∙ ap (λ (r : Result (XInstr × ℕ) XBad). result_ok r) (decode_of-fetched i rest 15 valid (spell_of-size i))
 
 -- the step over an instruction that stands at a place of the image

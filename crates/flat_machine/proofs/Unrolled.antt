@@ -5,7 +5,6 @@ use Rattle.flat_machine.specs.Steps.{Guest, After, Goes, Ends, Act, quiet, step_
 use Rattle.flat_machine.specs.Runs.{Run, before, then_run, run_from}
 use Rattle.flat_machine.proofs.Running.{run_from-step}
 
-
 pub run_goes : (size n : ℕ) (g next : Guest) → step_of size g ≡ quiet (Goes next) → run_from size (suc n) g ≡ run_from size n next
 run_goes size n g next step = run_from-step size n g ∙ ap (λ (a : Act). then_run a.put a.after (run_from size n)) step
 

@@ -5,7 +5,9 @@
 //! Nothing of any source program is in it. `run` is that run.
 #![tactic(auto)]
 
-pub mod guest;
 pub mod ends;
+pub mod guest;
 pub mod run;
 pub mod service;
+#[cfg(test)]
+mod tests;

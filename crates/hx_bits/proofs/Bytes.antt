@@ -7,7 +7,7 @@ use Rattle.std.proofs.Math.Nat.{div-div-eq-div-mul, div-one, pow-suc}
 use Rattle.std.specs.Int.{byte_at, bytes_low_first}
 use Rattle.byteorder.specs.Endian.{little_from}
 use Rattle.hx_words.specs.LittleEndian.{number_of, bytes_of}
-use Rattle.hx_words.proofs.LittleEndianLaws.{bytes_of-mod}
+use Rattle.hx_bits.proofs.LowBytes.{bytes_of-mod}
 
 little_from-drop : (n i : ℕ) (xs : List ℕ) → i + n ≤ length xs → little_from i n xs ≡ number_of (take n (drop i xs))
 unfolding number_of

@@ -1,8 +1,8 @@
 -- Fields that are read, put and cut further.
-use Rattle.std.proofs.Common.{◌≡◌, ℕ, zero, suc, ◌+◌, ◌-◌, ◌*◌, ◌/◌, ◌%◌, ◌^◌, ◌<◌, ◌≤◌, ◌⊎◌, inl, inr, arith, refl, sym, ap, ◌∙◌, subst, mod-lt, ⊎_elim}
+use Rattle.std.proofs.Common.{◌≡◌, ℕ, ◌+◌, ◌-◌, ◌*◌, ◌/◌, ◌%◌, ◌^◌, ◌<◌, ◌≤◌, ◌⊎◌, arith, sym, ap, ◌∙◌, subst, mod-lt, ⊎_elim}
 use Rattle.std.proofs.Math.Arith.{mod-mul}
 use Rattle.std.proofs.Math.Pow.{mod-mod-pow}
-use Rattle.std.proofs.Math.Nat.{div-div-eq-div-mul, div-le_self, mul_comm, mod-mod, mod-eq_of_lt, div-one}
+use Rattle.std.proofs.Math.Nat.{div-div-eq-div-mul, mul_comm, mod-mod, mod-eq_of_lt, div-one}
 use Rattle.std.proofs.lemmas.Nat.{pow-add, pow_pos, mod-mul-add, div-mul-add, div-add-mod'}
 use Rattle.hx_bits.specs.Bits.{field_of, with_field}
 use Rattle.hx_bits.proofs.Cuts.{below_with_pow}

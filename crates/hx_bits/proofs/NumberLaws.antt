@@ -1,10 +1,11 @@
 -- Numbers that stand in bytes.
-use Rattle.std.proofs.Common.{◌≡◌, ℕ, zero, suc, ◌+◌, ◌-◌, ◌*◌, ◌/◌, ◌%◌, ◌^◌, ◌<◌, ◌≤◌, List, [], ◌∷◌, ◌++◌, length, take, drop, Option, Some, None, refl, sym, ap, ap₂, ◌∙◌, arith, length-append, length-drop, length-take, subst}
-use Rattle.std.proofs.lemmas.Bool.{le-leb, lt-leb, leb-true, cond-true, cond-false, cases_Bool, false≢true}
-use Rattle.std.proofs.lemmas.Option.{none-some, same_Some, cond_some}
+use Rattle.std.proofs.Common.{◌≡◌, ℕ, ◌+◌, ◌%◌, ◌^◌, ◌<◌, ◌≤◌, List, ◌++◌, length, take, drop, Some, None, refl, sym, ap, ◌∙◌, arith, length-append, length-drop, subst}
+use Rattle.std.proofs.lemmas.Bool.{le-leb, lt-leb, leb-true, cond-true, cond-false}
+use Rattle.std.proofs.lemmas.Option.{cond_some}
 use Rattle.std.proofs.lemmas.List.{drop_at, take_at, length-take-le}
 use Rattle.hx_words.specs.LittleEndian.{number_of, bytes_of, AreBytes}
-use Rattle.hx_words.proofs.LittleEndianLaws.{length-bytes_of, number_of-low_bytes, number_of_lt, bytes_of-number_of, AreBytes-take, AreBytes-drop}
+use Rattle.hx_words.proofs.LittleEndianLaws.{length-bytes_of, number_of_lt, bytes_of-number_of, AreBytes-take, AreBytes-drop}
+use Rattle.hx_bits.proofs.LowBytes.{number_of-low_bytes}
 use Rattle.hx_bits.specs.Numbers.{number_at}
 
 -- a number is read where its bytes stand

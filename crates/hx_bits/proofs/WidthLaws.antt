@@ -1,10 +1,10 @@
 -- Numbers of a width.
-use Rattle.std.proofs.Common.{◌≡◌, ℕ, ℤ, pos, negsuc, ◌+◌, ◌-◌, ◌*◌, ◌/◌, ◌%◌, ◌^◌, ◌<◌, ◌≤◌, arith, refl, sym, ap, ◌∙◌, mod-lt}
+use Rattle.std.proofs.Common.{◌≡◌, ℕ, ◌*◌, ◌^◌, ◌<◌, ◌≤◌, arith, refl, mod-lt}
 use Rattle.std.proofs.Math.Nat.{mod-mod, mod-eq_of_lt}
 use Rattle.std.proofs.lemmas.Nat.{pow_pos}
 use Rattle.std.proofs.lemmas.Int.{ints}
 use Rattle.std.proofs.lemmas.Bool.Decides.{nat_tests}
-use Rattle.hx_words.specs.TwosComplement.{signed_of, bits_of, IsSigned}
+use Rattle.hx_words.specs.TwosComplement.{signed_of}
 use Rattle.hx_bits.specs.declared.widths.Width.{Width}
 use Rattle.hx_bits.specs.declared.widths.Width.TheVariants.{W8, W16, W32, W64}
 use Rattle.hx_bits.specs.Widths.{bits_in, bytes_in, truncated, sign_extended}

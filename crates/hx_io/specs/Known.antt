@@ -1,5 +1,5 @@
 -- What a writer of std holds and a reader of std has left, where they tell that.
-use Rattle.std.specs.Prelude.{◌≡◌, ℕ, List, Option, Some, None, Result, Ok, Err}
+use Rattle.std.specs.Prelude.{ℕ, List, Option, Some, None, Result, Ok, Err}
 use Rattle.std.specs.Io.KnownBytes.{Appends}
 use Rattle.hx_words.specs.Prefixes.{IsPrefix}
 use Rattle.hx_io.specs.Streams.{Takes}

@@ -1,14 +1,12 @@
 -- Fetches of code that is known.
-use Rattle.std.proofs.Common.{◌≡◌, ℕ, ◌+◌, ◌-◌, ◌<◌, ◌≤◌, ◌⊎◌, Bool, true, false, not, ◌&&◌, cond, List, [], ◌∷◌, ◌++◌, length, take, drop, Option, Some, None, Result, Ok, Err, refl, sym, ap, ◌∙◌, arith, ⊎_elim, length-take, length-drop, min, subst, take-append-drop}
-use Rattle.std.proofs.lemmas.Bool.{cases_Bool, cond-true, cond-false, false≢true, and_parts, and_from}
+use Rattle.std.proofs.Common.{◌≡◌, ℕ, ◌+◌, ◌-◌, ◌<◌, ◌≤◌, true, false, not, ◌&&◌, List, [], ◌∷◌, ◌++◌, length, take, drop, Some, None, Ok, refl, sym, ap, ◌∙◌, arith, ⊎_elim, length-take, length-drop, subst, take-append-drop}
+use Rattle.std.proofs.lemmas.Bool.{cases_Bool, cond-true, cond-false, and_parts}
 use Rattle.std.proofs.lemmas.Option.{none-some, same_Some, cond_some}
-use Rattle.std.proofs.lemmas.List.{take-take, drop-drop, drop-append-le, take-append-le}
-use Rattle.hx_mem.specs.declared.fault.MemBad.{MemBad}
+use Rattle.std.proofs.lemmas.List.{drop-drop, drop-append-le, take-append-le}
 use Rattle.hx_mem.specs.Segments.{Segment}
-use Rattle.hx_mem.specs.Space.{Space, end_of, has, code_in, code_of, region_of, fetch_of, fetched_in, IsBelow, IsLaidOut}
+use Rattle.hx_mem.specs.Space.{Space, end_of, has, code_in, code_of, region_of, fetch_of, IsBelow, IsLaidOut}
 use Rattle.hx_mem.proofs.Writes.{has-true, has_from, has_above}
 use Rattle.hx_mem.proofs.Regions.{region_has, code_of_region, code_of_none, fetch_of_region}
-use Rattle.hx_mem.proofs.Within.{part_of_part}
 
 -- known code is what a fetch gives
 pub code_parts : (r : Segment) (a n : ℕ) (xs : List ℕ) → code_in r a n ≡ Some xs → (r.exec ≡ true) × (take n (drop (a - r.start) r.bytes) ≡ xs)

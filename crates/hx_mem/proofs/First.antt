@@ -1,13 +1,12 @@
 -- The region that has an address, by its place.
-use Rattle.std.proofs.Common.{◌≡◌, ℕ, zero, suc, ◌+◌, ◌-◌, ◌<◌, ◌≤◌, ◌⊎◌, Bool, true, false, cond, leb, List, [], ◌∷◌, length, get_or, set, Option, Some, None, Result, Ok, Err, sym, refl, ap, ◌∙◌, arith, subst, inl, inr, ⊎_elim}
-use Rattle.std.proofs.lemmas.Bool.{cond-true, cond-false, cases_Bool, le-leb, leb-true, leb-false, false≢true, cases_lt}
+use Rattle.std.proofs.Common.{◌≡◌, ℕ, zero, suc, ◌+◌, ◌-◌, ◌<◌, ◌≤◌, true, false, cond, List, [], ◌∷◌, length, get_or, set, Option, Some, None, Err, sym, refl, ap, ◌∙◌, arith, subst, ⊎_elim}
+use Rattle.std.proofs.lemmas.Bool.{cond-true, cond-false, cases_lt}
 use Rattle.std.proofs.lemmas.List.{get_or_default}
 use Rattle.std.proofs.lemmas.Option.{none-some, same_Some}
-use Rattle.hx_mem.specs.declared.fault.MemBad.{MemBad}
 use Rattle.hx_mem.specs.declared.fault.MemBad.TheVariants.{Unmapped}
 use Rattle.hx_mem.specs.declared.memory.GuardRange.{GuardRange}
 use Rattle.hx_mem.specs.Segments.{Segment}
-use Rattle.hx_mem.specs.Space.{has, read, read_in, put, put_in, end_of, region_of, stored, stored_in, fetched, fetched_in, no_region, loaded, load_bad, IsPlaced, IsBelow, IsLaidOut}
+use Rattle.hx_mem.specs.Space.{has, read, read_in, put, put_in, end_of, region_of, no_region, loaded, load_bad, IsPlaced, IsBelow, IsLaidOut}
 use Rattle.hx_mem.specs.Found.{no_segment, NoneBefore, NoneHas, IsFoundAt, AllStartBy, AllStartPast}
 use Rattle.hx_mem.proofs.Writes.{has-true, has_below, has_above}
 

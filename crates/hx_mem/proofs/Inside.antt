@@ -1,14 +1,12 @@
 -- A write inside a stretch that is read.
 use Rattle.hx_mem.specs.Segments.{Segment}
-use Rattle.std.proofs.Common.{◌≡◌, ℕ, ◌+◌, ◌-◌, ◌*◌, ◌/◌, ◌%◌, ◌^◌, ◌<◌, ◌≤◌, ◌⊎◌, Bool, true, false, zero, suc, List, [], ◌∷◌, ◌++◌, length, take, drop, Option, Some, None, refl, sym, ap, ap₂, ◌∙◌, arith, mod-lt, ⊎_elim, cond, length-take, length-drop, length-append, subst}
-use Rattle.std.proofs.lemmas.Bool.{cases_Bool, cond-true, cond-false, false≢true}
+use Rattle.std.proofs.Common.{◌≡◌, ℕ, ◌+◌, ◌-◌, ◌<◌, ◌≤◌, true, zero, suc, List, [], ◌∷◌, ◌++◌, length, take, drop, Some, refl, sym, ap, ◌∙◌, arith, ⊎_elim, cond, length-drop}
+use Rattle.std.proofs.lemmas.Bool.{cases_Bool, cond-true, cond-false}
 use Rattle.std.proofs.lemmas.Option.{none-some}
-use Rattle.std.proofs.lemmas.List.{drop-drop, take-take, drop-take, length-take-le, drop-append-le, take_at, take-append-le}
-use Rattle.hx_words.specs.LittleEndian.{bytes_of}
-use Rattle.hx_mem.specs.Space.{end_of, has, splice, read_in, writable_in, bytes_after, put_in, read, writable, put, IsLaidOut}
-use Rattle.hx_words.proofs.LittleEndianLaws.{length-bytes_of}
-use Rattle.hx_mem.proofs.Writes.{has-true, has_from, writable_fits, read_fits, read_from, length-bytes_after, bytes_if, has-put_in}
-use Rattle.hx_mem.proofs.Within.{part_of_part, below_read, writable_in_within, writable_within}
+use Rattle.std.proofs.lemmas.List.{drop-drop, take-take, drop-take, length-take-le, drop-append-le}
+use Rattle.hx_mem.specs.Space.{has, splice, writable_in, put_in, read, writable, put, IsLaidOut}
+use Rattle.hx_mem.proofs.Writes.{has-true, has_from, read_fits, read_from, length-bytes_after, bytes_if, has-put_in}
+use Rattle.hx_mem.proofs.Within.{below_read, writable_in_within}
 
 -- the first bytes of two lists in a row, past the first list
 pub take_past : (xs ys : List ℕ) (n k : ℕ) → length xs + n ≡ k → take k (xs ++ ys) ≡ xs ++ take n ys

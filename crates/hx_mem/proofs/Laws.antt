@@ -1,20 +1,20 @@
 -- The laws that a simulation cites, with each count of bytes and each list of bytes as a variable of its own.
-use Rattle.std.proofs.Common.{◌≡◌, ℕ, ◌+◌, ◌-◌, ◌%◌, ◌^◌, ◌<◌, ◌≤◌, ◌⊎◌, Bool, true, false, not, ◌&&◌, cond, leb, List, [], ◌∷◌, ◌++◌, length, take, drop, Option, Some, None, Result, Ok, Err, refl, sym, ap, ap₂, ◌∙◌, arith, ⊎_elim, subst, inl, inr}
-use Rattle.std.proofs.lemmas.Bool.{cases_Bool, cond-true, cond-false, false≢true, and_from, and_left, and_right, and_parts, le-leb, lt-leb, leb-true}
+use Rattle.std.proofs.Common.{◌≡◌, ℕ, ◌+◌, ◌-◌, ◌%◌, ◌^◌, ◌<◌, Bool, true, false, ◌&&◌, cond, leb, List, [], ◌∷◌, length, Some, None, Result, Ok, Err, refl, sym, ap, ap₂, ◌∙◌, arith, ⊎_elim, subst}
+use Rattle.std.proofs.lemmas.Bool.{cases_Bool, cond-false, false≢true}
 use Rattle.std.proofs.lemmas.Bool.Decides.{nat_tests}
 use Rattle.std.proofs.lemmas.Option.{none-some, same_Some}
 use Rattle.hx_words.specs.LittleEndian.{number_of, bytes_of, AreBytes}
-use Rattle.hx_words.proofs.LittleEndianLaws.{length-bytes_of, number_of-low_bytes, number_of_lt, AreBytes-bytes_of, AreBytes-take, AreBytes-drop}
+use Rattle.hx_words.proofs.LittleEndianLaws.{length-bytes_of, number_of_lt, AreBytes-take, AreBytes-drop}
+use Rattle.hx_bits.proofs.LowBytes.{number_of-low_bytes}
 use Rattle.hx_mem.specs.declared.fault.MemBad.{MemBad}
-use Rattle.hx_mem.specs.declared.fault.MemBad.TheVariants.{Guard, Unmapped, Protected}
-use Rattle.hx_mem.specs.declared.memory.GuardRange.{GuardRange}
+use Rattle.hx_mem.specs.declared.fault.MemBad.TheVariants.{Unmapped, Protected}
 use Rattle.hx_mem.specs.Segments.{Segment}
-use Rattle.hx_mem.specs.Space.{Space, Apart, end_of, has, read_in, writable_in, code_in, bytes_after, put_in, read, writable, code_of, put, region_of, no_region, load_bad, loaded, load_of, store_of, stored, stored_in, after_store, fetch_of, fetched, fetched_in, IsPlaced, IsLaidOut, IsMemory}
+use Rattle.hx_mem.specs.Space.{Space, Apart, has, writable_in, bytes_after, put_in, read, writable, code_of, put, region_of, no_region, load_bad, loaded, load_of, store_of, stored_in, after_store, fetch_of, fetched_in, IsLaidOut, IsMemory}
 use Rattle.hx_mem.specs.Refusals.{IsWriteOrExec}
 use Rattle.hx_mem.proofs.Within.{length-read}
-use Rattle.hx_mem.proofs.Writes.{read-put_same, read-put_apart, writable-put, code_of-put, writable_fits, read_fits}
-use Rattle.hx_mem.proofs.Regions.{region_has, writable_of_region, writable_of_none, load_of_region, load_of_none, store_of_region, store_of_none, fetch_of_region, fetch_of_none, code_of_region, code_of_none, IsRegionAfter, region_of-put}
-use Rattle.hx_mem.proofs.First.{read_of_region, read_of_none, put_none}
+use Rattle.hx_mem.proofs.Writes.{read-put_same, read-put_apart, writable-put, code_of-put, read_fits}
+use Rattle.hx_mem.proofs.Regions.{writable_of_region, writable_of_none, store_of_region, store_of_none, fetch_of_region, fetch_of_none, IsRegionAfter, region_of-put}
+use Rattle.hx_mem.proofs.First.{read_of_region, read_of_none}
 use Rattle.hx_mem.proofs.Places.{region_of-put_none, IsMemory-after_store}
 
 -- n bytes that were written are read back
@@ -189,8 +189,13 @@ pub record IsAfterStore (m after : Space) (a n v : ℕ) : Type 0 where
   pub others : (b k : ℕ) → Apart a n b k → read after.regions b k ≡ read m.regions b k
   pub rights : (b k : ℕ) → writable after.regions b k ≡ writable m.regions b k
   pub code : (b k : ℕ) → code_of after.regions b k ≡ code_of m.regions b k
+  pub loaded : load_of after a n ≡ Ok (v % 256 ^ n)
+  pub loads : (b k : ℕ) → Apart a n b k → load_of after b k ≡ load_of m b k
+  pub stores : (b k : ℕ) → store_of after b k ≡ store_of m b k
   pub fetches : IsWriteOrExec m.regions → (b k : ℕ) → fetch_of after b k ≡ fetch_of m b k
+  pub guard : after.guard ≡ m.guard
   pub whole : IsMemory m → IsMemory after
+  pub fixed : IsWriteOrExec m.regions → IsWriteOrExec after.regions
 
 pub IsAfterStore-after_store : (m : Space) (a n v : ℕ) → writable m.regions a n ≡ true → IsAfterStore m (after_store m a n v) a n v
 IsAfterStore-after_store m a n v w = record {
@@ -198,8 +203,13 @@ IsAfterStore-after_store m a n v w = record {
   others = λ b k d. apart_after m.regions a n (bytes_of n v) b k (length-bytes_of n v) d;
   rights = λ b k. writable-put m.regions a (bytes_of n v) b k;
   code = λ b k. code_of-put m.regions a (bytes_of n v) b k;
+  loaded = load_after_store m a n v w;
+  loads = load_of-after_store m a n v;
+  stores = store_of-after_store m a n v;
   fetches = λ h b k. fetch_of-after_store m a n v b k h;
+  guard = refl;
   whole = λ h. IsMemory-after_store m a n v h;
+  fixed = λ h. IsWriteOrExec-put m.regions a (bytes_of n v) h;
 }
 
 -- so that the next step meets a variable, and no nested term

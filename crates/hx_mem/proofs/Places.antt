@@ -1,5 +1,5 @@
 -- Regions at their places: what adding one and a write make of the order.
-use Rattle.std.proofs.Common.{◌≡◌, ℕ, zero, suc, ◌+◌, ◌<◌, ◌≤◌, ◌⊎◌, min, max, Bool, true, false, ◌&&◌, leb, ltb, cond, List, [], ◌∷◌, ◌++◌, length, take, drop, get_or, insert, Option, Some, None, refl, sym, ap, ◌∙◌, arith, ⊎_elim, subst}
+use Rattle.std.proofs.Common.{◌≡◌, ℕ, zero, suc, ◌+◌, ◌<◌, ◌≤◌, min, max, true, false, ◌&&◌, leb, ltb, cond, List, [], ◌∷◌, length, insert, Option, Some, None, refl, sym, ap, ◌∙◌, arith, ⊎_elim, subst}
 use Rattle.std.proofs.lemmas.Bool.{cases_Bool, cond-true, cond-false, leb-true, leb-false, ltb-true, ltb-false, and_from, le-leb, lt-leb, lt-ltb, and_parts, false≢true}
 use Rattle.std.proofs.lemmas.Option.{none-some}
 use Rattle.hx_words.specs.LittleEndian.{bytes_of, AreBytes}
@@ -7,8 +7,8 @@ use Rattle.hx_mem.specs.declared.memory.GuardRange.{GuardRange}
 use Rattle.hx_mem.specs.Segments.{Segment}
 use Rattle.hx_mem.specs.Space.{Space, end_of, has, put, put_in, region_of, guarded, shares_none, misses, misses_guard, with_region, after_add, after_store, has_room, has_room_for_guard, IsPlaced, IsBelow, IsLaidOut, IsMemory}
 use Rattle.hx_mem.specs.Refusals.{EndBy, IsWriteOrExec}
-use Rattle.hx_mem.specs.Found.{no_segment, AllStartBy, AllStartPast}
-use Rattle.hx_mem.proofs.Writes.{has-true, has_from, has-put_in}
+use Rattle.hx_mem.specs.Found.{AllStartBy, AllStartPast}
+use Rattle.hx_mem.proofs.Writes.{has-true, has-put_in}
 use Rattle.hx_mem.proofs.Within.{IsLaidOut-put}
 use Rattle.hx_words.proofs.LittleEndianLaws.{AreBytes-bytes_of}
 

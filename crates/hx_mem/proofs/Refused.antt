@@ -1,9 +1,8 @@
 -- Refusals are exact.
-use Rattle.std.proofs.Common.{◌≡◌, ◌↔◌, ℕ, ◌+◌, ◌-◌, ◌<◌, ◌≤◌, ◌⊎◌, Bool, true, false, cond, leb, List, [], ◌∷◌, length, take, drop, Option, Some, None, Result, Ok, Err, refl, sym, ap, ◌∙◌, arith, ⊎_elim, subst}
-use Rattle.std.proofs.lemmas.Bool.{cases_Bool, cond-true, cond-false, false≢true, le-leb, lt-leb, leb-true, leb-false, cases_lt}
+use Rattle.std.proofs.Common.{◌≡◌, ◌↔◌, ℕ, ◌+◌, ◌-◌, ◌<◌, ◌≤◌, true, false, cond, leb, List, take, drop, Option, Some, None, Result, Ok, Err, refl, sym, ap, ◌∙◌, arith, ⊎_elim, subst}
+use Rattle.std.proofs.lemmas.Bool.{cases_Bool, false≢true, leb-true, leb-false, cases_lt}
 use Rattle.std.proofs.lemmas.Bool.Decides.{nat_tests}
 use Rattle.std.proofs.lemmas.Option.{none-some, same_Some}
-use Rattle.hx_words.specs.LittleEndian.{number_of}
 use Rattle.hx_mem.specs.declared.fault.MemBad.{MemBad}
 use Rattle.hx_mem.specs.declared.fault.MemBad.TheVariants.{Guard, Unmapped, Protected}
 use Rattle.hx_mem.specs.declared.memory.GuardRange.{GuardRange}

@@ -1,13 +1,10 @@
 -- What the region of an address decides, and what a write makes of it.
-use Rattle.std.proofs.Common.{◌≡◌, ℕ, ◌+◌, ◌-◌, ◌<◌, ◌≤◌, ◌⊎◌, Bool, true, false, not, ◌&&◌, cond, leb, List, [], ◌∷◌, length, take, drop, Option, Some, None, Result, Ok, Err, refl, sym, ap, ap₂, ◌∙◌, arith, ⊎_elim, subst}
-use Rattle.std.proofs.lemmas.Bool.{cases_Bool, cond-true, cond-false, false≢true, and_from, and_left}
-use Rattle.std.proofs.lemmas.Bool.Decides.{nat_tests}
+use Rattle.std.proofs.Common.{◌≡◌, ℕ, ◌+◌, ◌<◌, ◌≤◌, true, false, cond, List, [], ◌∷◌, Some, None, Err, refl, sym, ap, ◌∙◌, ⊎_elim, subst}
+use Rattle.std.proofs.lemmas.Bool.{cases_Bool, cond-true, cond-false}
 use Rattle.std.proofs.lemmas.Option.{none-some, same_Some}
-use Rattle.hx_mem.specs.declared.fault.MemBad.{MemBad}
-use Rattle.hx_mem.specs.declared.fault.MemBad.TheVariants.{Guard, Unmapped, Protected}
-use Rattle.hx_mem.specs.declared.memory.GuardRange.{GuardRange}
+use Rattle.hx_mem.specs.declared.fault.MemBad.TheVariants.{Unmapped}
 use Rattle.hx_mem.specs.Segments.{Segment}
-use Rattle.hx_mem.specs.Space.{Space, end_of, has, read_in, writable_in, code_in, put_in, read, writable, code_of, put, region_of, no_region, load_bad, loaded, load_of, store_of, stored, stored_in, fetch_of, fetched, fetched_in}
+use Rattle.hx_mem.specs.Space.{Space, end_of, has, read_in, writable_in, code_in, put_in, writable, code_of, put, region_of, no_region, load_bad, loaded, load_of, store_of, stored, stored_in, fetch_of, fetched, fetched_in}
 use Rattle.hx_mem.proofs.Writes.{has-true, has-put_in, length-bytes_after}
 use Rattle.hx_mem.proofs.First.{read_of_region, read_of_none}
 use Rattle.hx_mem.proofs.Stored.{refused_right}

@@ -1,5 +1,5 @@
 -- What the code's steps make of a region.
-use Rattle.std.proofs.Common.{◌≡◌, ℕ, ◌+◌, ◌-◌, ◌<◌, ◌≤◌, true, false, List, ◌++◌, length, take, drop, refl, sym, ap, ◌∙◌, arith, length-drop, length-append, subst, [], append-nil}
+use Rattle.std.proofs.Common.{◌≡◌, ℕ, ◌+◌, ◌-◌, ◌<◌, ◌≤◌, true, false, List, ◌++◌, length, take, drop, sym, ap, ◌∙◌, arith, length-drop, subst, [], append-nil}
 use Rattle.std.proofs.lemmas.Bool.{and_from, and_left, and_right, le-leb, lt-leb, cond-true, cond-false}
 use Rattle.std.proofs.lemmas.List.{drop-drop, take_rest, drop_all}
 use borrow.Rule.Slice.PartMut.{put_mid}

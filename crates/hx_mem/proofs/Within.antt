@@ -1,10 +1,10 @@
 -- Parts of a stretch that lies in one region.
-use Rattle.std.proofs.Common.{◌≡◌, ℕ, ◌+◌, ◌-◌, ◌<◌, ◌≤◌, ◌⊎◌, Bool, true, false, ◌&&◌, leb, List, [], ◌∷◌, ◌++◌, length, take, drop, Option, Some, None, refl, sym, ap, ◌∙◌, arith, inl, inr, ⊎_elim, cond, length-take, length-drop, length-append}
-use Rattle.std.proofs.lemmas.Bool.{cases_Bool, cond-true, cond-false, false≢true, and_parts, and_from, le-leb, leb-true}
-use Rattle.std.proofs.lemmas.Option.{none-some, cond_some}
+use Rattle.std.proofs.Common.{◌≡◌, ℕ, ◌+◌, ◌-◌, ◌<◌, ◌≤◌, true, false, leb, List, [], ◌∷◌, length, take, drop, Some, refl, sym, ap, ◌∙◌, arith, ⊎_elim, cond, length-drop}
+use Rattle.std.proofs.lemmas.Bool.{cases_Bool, cond-true, cond-false, false≢true, and_parts, and_from, le-leb}
+use Rattle.std.proofs.lemmas.Option.{none-some}
 use Rattle.std.proofs.lemmas.List.{drop-drop, take-take, drop-take, length-take-le}
 use Rattle.hx_mem.specs.Segments.{Segment}
-use Rattle.hx_mem.specs.Space.{end_of, has, read_in, writable_in, code_in, put_in, read, writable, code_of, put, IsPlaced, IsBelow, IsLaidOut}
+use Rattle.hx_mem.specs.Space.{end_of, has, writable_in, put_in, read, writable, code_of, put, IsPlaced, IsBelow, IsLaidOut}
 use Rattle.hx_words.specs.LittleEndian.{AreBytes}
 use Rattle.hx_mem.proofs.Splices.{AreBytes-bytes_after}
 use Rattle.hx_mem.proofs.Writes.{has-true, has_from, has_above, writable_fits, read_fits, read_from, length-bytes_after}
@@ -55,7 +55,7 @@ read_within (r ∷ rs) a k i n xs w e p l = ⊎_elim
 pub writable_in_within : (r : Segment) (a k i n : ℕ) → writable_in r a k ≡ true → i + n ≤ k → writable_in r (a + i) n ≡ true
 unfolding writable_in
 writable_in_within r a k i n e l =
-    let p = and_parts _ _ e in
+    let p : (r.write ≡ true) × (leb (a + k) (end_of r) ≡ true) = and_parts _ _ e in
     let fits : a + i + n ≤ end_of r = omega (arith, writable_fits r a k e) in
     and_from _ _ p.0 (le-leb _ _ fits)
 

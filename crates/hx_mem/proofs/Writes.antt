@@ -1,10 +1,9 @@
 -- Laws of reads and writes.
 use Rattle.hx_mem.specs.Segments.{Segment}
-use Rattle.std.proofs.Common.{◌≡◌, ℕ, ◌+◌, ◌-◌, ◌<◌, ◌≤◌, ◌⊎◌, Bool, true, false, not, ◌&&◌, leb, ltb, List, [], ◌∷◌, length, take, drop, Option, Some, None, refl, sym, ap, ◌∙◌, arith, inl, inr, ⊎_elim, cond, length-take, length-drop}
-use Rattle.std.proofs.lemmas.Bool.{cases_Bool, and_parts, and_cases, and_from, and_left, and_right, leb-true, leb-false, ltb-true, ltb-false, le-leb, lt-leb, lt-ltb, le-ltb, cond-true, cond-false, false≢true, cases_lt}
+use Rattle.std.proofs.Common.{◌≡◌, ℕ, ◌+◌, ◌-◌, ◌<◌, ◌≤◌, true, false, ◌&&◌, leb, ltb, List, [], ◌∷◌, length, take, drop, Some, None, refl, sym, ap, ◌∙◌, arith, ⊎_elim, cond}
+use Rattle.std.proofs.lemmas.Bool.{cases_Bool, and_parts, and_from, and_left, and_right, leb-true, ltb-true, le-leb, lt-leb, lt-ltb, le-ltb, cond-true, cond-false, false≢true}
 use Rattle.std.proofs.lemmas.Bool.Decides.{nat_tests}
-use Rattle.std.proofs.lemmas.Option.{none-some, same_Some, cond_some}
-use Rattle.std.proofs.lemmas.List.{drop-drop, take-take, drop-take}
+use Rattle.std.proofs.lemmas.Option.{cond_some}
 use Rattle.hx_mem.specs.Space.{end_of, has, splice, read_in, writable_in, bytes_after, put_in, code_in, read, writable, put, code_of, Apart}
 use Rattle.hx_mem.proofs.Splices.{length-splice, mid-splice, below-splice, above-splice}
 

@@ -1,7 +1,7 @@
 -- When an access is refused, and with which address, in plain words.
-use Rattle.std.specs.Prelude.{◌≡◌, ℕ, ◌+◌, ◌≤◌, ◌<◌, ◌↔◌, Bool, true, false, List, [], ◌∷◌, ◌&&◌, Option, Some, None, Err, Ok}
+use Rattle.std.specs.Prelude.{◌≡◌, ℕ, ◌+◌, ◌≤◌, ◌<◌, false, List, [], ◌∷◌, ◌&&◌, Option, Some, None}
 use Rattle.hx_mem.specs.Segments.{Segment}
-use Rattle.hx_mem.specs.Space.{Space, end_of, region_of, guarded}
+use Rattle.hx_mem.specs.Space.{Space, end_of, region_of}
 
 -- the byte lies in the region, if there is one
 abbrev pub IsIn : Option Segment → ℕ → Type 0

@@ -1,5 +1,5 @@
 -- The table of registers (Microsoft, "Overview of ARM64EC ABI conventions").
-use Rattle.std.specs.Prelude.{◌≡◌, ℕ, ◌==◌, ◌⊎◌, Option, Some, None, if◌then◌else◌}
+use Rattle.std.specs.Prelude.{◌≡◌, ℕ, Bool, ◌==◌, ◌||◌, ◌⊎◌, Option, Some, None, if◌then◌else◌}
 use Rattle.reg_map.specs.declared.registers.X64Reg.{X64Reg}
 use Rattle.reg_map.specs.declared.registers.X64Reg.TheVariants.{Rax, Rcx, Rdx, Rbx, Rsp, Rbp, Rsi, Rdi, R8, R9, R10, R11, R12, R13, R14, R15}
 
@@ -42,6 +42,10 @@ x64_at n =
     if n == 29 then Some Rbp else (
     if n == 31 then Some Rsp else (
     None))))))))))))))))
+
+-- the test of these registers
+abbrev pub is_blocked_at : ℕ → Bool
+is_blocked_at n = (n == 13) || (n == 14) || (n == 18) || (n == 23) || (n == 24) || (n == 28)
 
 -- the six registers that EC code does not name
 abbrev pub IsBlocked : ℕ → Type 0

@@ -2,7 +2,7 @@
 
 ghost use Rattle.std.specs.Prelude.{◌≡◌, ◌≢◌, ◌↔◌, IsTrue, ◌≤◌, IsNone, Option};
 ghost use Rattle.reg_map.specs.declared.registers.X64Reg.{X64Reg};
-ghost use Rattle.reg_map.specs.Table.{arm_number, x64_at, IsBlocked};
+ghost use Rattle.reg_map.specs.Table.{arm_number, x64_at, is_blocked_at, IsBlocked};
 
 /// An x64 general register, in the order of its number in an instruction (Intel SDM, Vol. 2, 3.1.1.1).
 #[derive(Clone, Copy, Debug, PartialEq, Eq)]
@@ -121,7 +121,8 @@ fn x64_numbered(n: u8) -> Option<X64Reg>
 /// Whether Arm64EC code must not name this register: x13, x14, x23, x24 and x28 have no place in
 /// the x64 context, and x18 is the platform's (Microsoft, "Overview of ARM64EC ABI conventions").
 pub fn is_blocked(r: A64Reg) -> bool
-    ensures { IsTrue result ↔ IsBlocked r.0 }
+    ensures exact { IsTrue result ↔ IsBlocked r.0 }
+    ensures value { result ≡ is_blocked_at r.0 }
 {
     matches!(r.0, 13 | 14 | 18 | 23 | 24 | 28)
 }

@@ -18,7 +18,6 @@ pub mov_effect : (i : XInstr) (len imm : ℕ) (r : X64Reg) (cpu new : Registers)
 unfolding effect_of
 mov_effect i len imm r cpu new mem is registers = ap (λ (s : Registers). goes_on len s mem) registers ∙ ap (λ (j : XInstr). effect_of j len cpu mem) (sym is)
 
-
 fits : (q : X64Reg) (z : ℤ) → Valid (SubImm q z) → SFits w32 z
 unfolding Valid
 fits q (pos n) h = omega (arith, ints)

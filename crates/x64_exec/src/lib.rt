@@ -7,3 +7,5 @@
 
 pub mod event;
 pub mod step;
+#[cfg(test)]
+mod tests;

@@ -19,10 +19,8 @@ use x64_isa::instruction::XInstr;
 #[tactic(auto, unfolding(crate::specs::Effects::effect_of))]
 pub fn step(cpu: &mut Cpu, mem: &mut Memory, i: &XInstr, len: u64) -> XEvent
     requires { Valid i.now }
-    ensures {
-        record { cpu = registers_of cpu.new; mem = mem.new; event = result }
-        ≡ effect_of i.now len (registers_of cpu.old) mem.old
-    }
+    ensures { record { cpu = registers_of cpu.new; mem = mem.new; event = result }
+        ≡ effect_of i.now len (registers_of cpu.old) mem.old }
 {
     match *i {
         XInstr::MovImm64 { r, imm } => {
@@ -71,10 +69,8 @@ fn minus_flags(a: u64, b: u64) -> XFlags
 
 /// Pushes the address of the next instruction, and goes to the target.
 fn call(cpu: &mut Cpu, mem: &mut Memory, target: u64, len: u64) -> XEvent
-    ensures {
-        record { cpu = registers_of cpu.new; mem = mem.new; event = result }
-        ≡ calls target len (registers_of cpu.old) mem.old
-    }
+    ensures { record { cpu = registers_of cpu.new; mem = mem.new; event = result }
+        ≡ calls target len (registers_of cpu.old) mem.old }
 {
     let sp = cpu.get64(X64Reg::Rsp).wrapping_sub(8);
     let next = cpu.pc.wrapping_add(len);

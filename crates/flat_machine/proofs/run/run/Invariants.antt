@@ -9,5 +9,5 @@ invariant-loop-turn g l = record {
   size : l.guest.size ≡ length l.fn.image;
   told : g.O.Sink.tells l.out ≡ g.O.Sink.tells l.fn.out;
   counted : g.O.Sink.faults l.fn.out ≤ g.O.Sink.faults l.out;
-  ran : Progress (flat_run l.fn.image l.fn.budget) (run_from l.guest.size (l.fn.budget - l._turn) (guest_of l.guest)) (g.O.Sink.tells l.fn.out) (g.O.Sink.bytes l.fn.out) (g.O.Sink.bytes l.out)
+  ran : Progress (flat_run l.fn.image l.fn.budget) (run_from l.guest.size (l.fn.budget - l._turn) (guest_of l.guest)) (g.O.Sink.tells l.fn.out) (g.O.Sink.bytes l.fn.out) (g.O.Sink.bytes l.out);
 }

@@ -1,4 +1,4 @@
-use Rattle.std.proofs.Common.{◌≡◌, ◌≤◌, ◌<◌, length, ◌∙◌, rules}
+use Rattle.std.proofs.Common.{◌∙◌, rules}
 use Rattle.hx_bits.proofs.Bytes.{little_from-number_of, first_number}
 use Rattle.hx_bits.proofs.numbers.read_number.Goals as goal
 

@@ -1,4 +1,4 @@
-use Rattle.std.proofs.Common.{◌∙◌, refl, rules, length, ap, ◌++◌, drop}
+use Rattle.std.proofs.Common.{◌∙◌, refl, rules, ap, ◌++◌, drop}
 use Rattle.hx_bits.proofs.Bytes.{bytes_low_first-bytes_of, low_first_of_low, set_first}
 use Rattle.hx_bits.proofs.numbers.write_number.Goals as goal
 

@@ -1,5 +1,5 @@
 use Rattle.std.proofs.Math.Facts.{Fits-lt-pow}
-use Rattle.hx_words.proofs.LittleEndianLaws.{AreBytes-from_items}
+use Rattle.hx_bits.proofs.LowBytes.{AreBytes-from_items}
 use Rattle.hx_mem.proofs.memory.has_any.Goals as goal
 
 pub returns-clause-items : goal.returns-clause-items

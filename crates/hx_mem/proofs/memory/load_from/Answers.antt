@@ -1,4 +1,4 @@
-use Rattle.std.proofs.Common.{sym, ap, ◌∙◌, subst, Err, ◌<◌, length}
+use Rattle.std.proofs.Common.{sym, ap, ◌∙◌, Err}
 use Rattle.hx_bits.specs.Widths.{bytes_in}
 use Rattle.hx_mem.specs.declared.fault.MemBad.TheVariants.{Unmapped}
 use Rattle.hx_mem.specs.Space.{end_of, loaded, read_in}

@@ -1,4 +1,4 @@
-use Rattle.std.proofs.Common.{arith, ◌≤◌, ◌<◌, ap, sym, ◌∙◌, subst}
+use Rattle.std.proofs.Common.{arith, ◌≤◌, ◌<◌, subst}
 use Rattle.hx_mem.proofs.First.{started_more, past_more}
 use Rattle.hx_mem.proofs.memory.started_by.Goals as goal
 

@@ -1,5 +1,4 @@
 use Rattle.std.proofs.Common.{sym, ap, ◌∙◌, set, Err}
-use Rattle.hx_words.specs.LittleEndian.{bytes_of}
 use Rattle.hx_bits.specs.Widths.{bytes_in}
 use Rattle.hx_mem.specs.Space.{stored}
 use Rattle.hx_mem.proofs.First.{region_none, put_none, found_in, placed_at, put_at_place, region_at_place}

@@ -1,7 +1,6 @@
 use Rattle.std.proofs.Common.{ap, ◌∙◌, rules, subst}
 use Rattle.hx_words.specs.LittleEndian.{AreBytes}
 use Rattle.hx_mem.specs.Segments.{Segment}
-use Rattle.hx_mem.specs.Space.{IsMemory}
 use Rattle.hx_mem.proofs.Places.{added, IsMemory-added, place_from}
 use Rattle.hx_mem.proofs.memory.Memory.add.Goals as goal
 

@@ -1,4 +1,4 @@
-use Rattle.std.proofs.Common.{sym, ap, ◌∙◌}
+use Rattle.std.proofs.Common.{ap, ◌∙◌}
 use Rattle.hx_mem.specs.Space.{has_room_for_guard}
 use Rattle.hx_mem.proofs.Places.{IsMemory-guard}
 use Rattle.hx_mem.proofs.memory.Memory.guard.Goals as goal

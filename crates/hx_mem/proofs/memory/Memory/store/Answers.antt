@@ -1,4 +1,4 @@
-use Rattle.std.proofs.Common.{sym, ap, ◌∙◌, rules, length}
+use Rattle.std.proofs.Common.{ap, ◌∙◌, rules}
 use Rattle.std.proofs.lemmas.List.{with_items_is}
 use Rattle.hx_words.specs.LittleEndian.{bytes_of}
 use Rattle.hx_bits.specs.Widths.{bytes_in}

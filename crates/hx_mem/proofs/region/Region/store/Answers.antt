@@ -1,5 +1,4 @@
-use Rattle.std.proofs.Common.{arith, rules, sym, ap, ◌∙◌, ◌≡◌, ◌<◌, ◌+◌, false}
-use Rattle.hx_mem.specs.Space.{end_of}
+use Rattle.std.proofs.Common.{arith, rules, sym, ap, ◌∙◌}
 use Rattle.hx_bits.specs.Widths.{bytes_in}
 use Rattle.std.proofs.lemmas.List.{with_items_is}
 use Rattle.hx_mem.proofs.Stored.{refused_past, refused_right, store_as}
