@@ -1,0 +1,4 @@
+pub mod Bits
+pub mod Comparisons
+pub mod Parts
+pub mod Signs
