@@ -1,5 +1,7 @@
 //! Effects with the values that Intel's manual gives.
 
+ghost use Rattle.x64_isa.specs.Spelling.{Valid};
+
 use crate::event::{XEvent, XFault};
 use crate::step::step;
 use hx_bits::Width;
@@ -30,6 +32,22 @@ fn machine() -> Cpu {
     }
 }
 
+/// `sub r9, imm`
+#[tactic(auto, unfolding(x64_isa::specs::Spelling::Valid))]
+fn sub(imm: i32) -> XInstr
+    ensures { Valid result }
+{
+    XInstr::SubImm { q: X64Reg::R9, imm }
+}
+
+/// `call rsp`
+#[tactic(auto, unfolding(x64_isa::specs::Spelling::Valid))]
+fn call() -> XInstr
+    ensures { Valid result }
+{
+    XInstr::CallReg { q: X64Reg::Rsp }
+}
+
 #[test]
 fn subtractions(rt: HostRuntime) -> Result<(), Fail> {
     let mut mem = Memory::new(rt.alloc());
@@ -43,8 +61,7 @@ fn subtractions(rt: HostRuntime) -> Result<(), Fail> {
     ] {
         let mut cpu = machine();
         cpu.set64(X64Reg::R9, a);
-        let sub = XInstr::SubImm { q: X64Reg::R9, imm };
-        assert_eq!(rt; step(&mut cpu, &mut mem, &sub, 4), XEvent::Next);
+        assert_eq!(rt; step(&mut cpu, &mut mem, &sub(imm), 4), XEvent::Next);
         assert_eq!(rt; cpu.get64(X64Reg::R9), difference, "{a} - {imm}");
         assert_eq!(rt; cpu.xf, XFlags { cf, zf, sf, of }, "{a} - {imm}");
         assert_eq!(rt; cpu.pc, 0x104);
@@ -55,7 +72,7 @@ fn subtractions(rt: HostRuntime) -> Result<(), Fail> {
 #[test]
 fn calls_push(rt: HostRuntime) -> Result<(), Fail> {
     let alloc = rt.alloc();
-    let call = XInstr::CallReg { q: X64Reg::Rsp };
+    let call = call();
     let mut mem = Memory::new(alloc);
     let mut cpu = machine();
     let refused = XEvent::Fault(XFault::Memory(MemBad::Unmapped(0x1008)));
