@@ -3,6 +3,8 @@
 //! N, Z, C, V as one number and x0 to x3 before it; x0 to x3, the flags, how far the program counter
 //! moved, and 32 bytes of memory after it.
 
+ghost use Rattle.std.specs.Prelude.{◌<◌};
+
 use crate::event::{AEvent, AFault};
 use crate::execute::step;
 use a64_isa::words::decode;

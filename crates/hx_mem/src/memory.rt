@@ -108,6 +108,13 @@ impl Memory {
         store_to(&mut self.regions, &self.guard, at, w, v)
     }
 
+    /// What a store of a width at an address would answer.
+    pub fn check_store(&self, at: u64, w: Width) -> Result<(), MemBad>
+        ensures { result ≡ store_of self.now at (bytes_in w) }
+    {
+        check_store_to(&self.regions, &self.guard, at, w)
+    }
+
     /// Up to `most` bytes of an executable region, from an address of it.
     pub fn fetch(&self, at: u64, most: usize) -> Result<&[u8], MemBad>
         ensures { MatchResult result (λ bytes. Ok bytes.now ≡ fetch_of self.now at most) (λ bad. Err bad ≡ fetch_of self.now at most) }
@@ -231,6 +238,24 @@ fn store_to(
         Some(i) => {
             let region = &mut regions[i];
             region.store(at, w, v)
+        }
+    }
+}
+
+fn check_store_to(
+    regions: &[Region],
+    guard: &Option<GuardRange>,
+    at: u64,
+    w: Width,
+) -> Result<(), MemBad>
+    requires { IsLaidOut regions.now }
+    ensures { result ≡ stored (region_of regions.now at) guard.now at (bytes_in w) }
+{
+    match region_at(regions, at) {
+        None => Err(bad_at(guard, at)),
+        Some(i) => {
+            let region = &regions[i];
+            region.check_store(at, w)
         }
     }
 }

@@ -81,6 +81,25 @@ impl Region {
         Ok(())
     }
 
+    // What a store at an address of the region would answer.
+    pub(crate) fn check_store(&self, at: u64, w: Width) -> Result<(), MemBad>
+        requires from { self.now.start ≤ at }
+        requires before { at < end_of self.now }
+        requires low { end_of self.now ≤ 2 ^ 63 }
+        ensures { result ≡ stored_in self.now at (bytes_in w) }
+    {
+        let end = self.end();
+        let room = end - at;
+        if room < w.bytes() as u64 {
+            return Err(MemBad::Unmapped(end));
+        }
+        if self.write {
+            Ok(())
+        } else {
+            Err(MemBad::Protected(at))
+        }
+    }
+
     // Up to `most` bytes from an address of the region.
     pub(crate) fn fetch(&self, at: u64, most: usize) -> Result<&[u8], MemBad>
         requires from { self.now.start ≤ at }
