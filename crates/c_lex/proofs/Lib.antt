@@ -1,0 +1,11 @@
+pub mod NumberLaws
+pub mod QuoteLaws
+pub mod CommentLaws
+pub mod LiteralLaws
+pub mod ReadingLaws
+pub mod GrammarLemmas
+pub mod TokenSound
+pub mod TokenReads
+pub mod GrammarLaws
+pub mod GapLaws
+pub mod TextLaws

@@ -1,0 +1,7 @@
+-- the value is that of the digits so far
+use Rattle.std.proofs.Common.{◌≡◌, take}
+use Rattle.std.specs.Str.Parse.{digits_value}
+use Rattle.c_lex.proofs.numbers.value_of.Given as goal
+
+abbrev pub invariant-loop-digit : goal.invariant-loop-digit
+invariant-loop-digit l = l.value ≡ digits_value l.base (take l.digit-index l.digits)

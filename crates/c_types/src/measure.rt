@@ -1,0 +1,203 @@
+ghost use Rattle.std.specs.Prelude.{◌≡◌, ◌+◌, ◌*◌, ◌^◌, ◌<◌, ◌≤◌, IfSome, slice_get, IsSome};
+ghost use Rattle.c_types.specs.Layout.{bytes_of, rounded, below_limit, with_field, empty_struct, fields_from, elements, element_by, struct_by, extent_within, extent_of, size_of, align_of, depth_of, field_place_of, offset_of, IsSmall};
+
+use crate::types::{FieldDef, IntTy, Ty, Types};
+
+/// The size and the alignment of a type in bytes.
+#[derive(Clone, Copy, Debug, PartialEq, Eq)]
+pub struct Extent {
+    pub size: u64,
+    pub align: u64,
+}
+
+/// Sizes stay below this.
+const LIMIT: u64 = 1 << 62;
+
+/// As many places as a `u32` can name.
+const PLACES: u64 = 1 << 32;
+
+fn bytes(int: IntTy) -> u64
+    ensures value { result ≡ bytes_of int }
+    ensures some { 0 < result }
+    ensures small { result ≤ 8 }
+{
+    match int {
+        IntTy::I8 | IntTy::U8 => 1,
+        IntTy::I16 | IntTy::U16 => 2,
+        IntTy::I32 | IntTy::U32 => 4,
+        IntTy::I64 | IntTy::U64 => 8,
+    }
+}
+
+/// Up to the next multiple of an alignment.
+fn round_up(place: u64, align: u64) -> u64
+    requires low { 0 < align }
+    requires high { align ≤ 8 }
+    requires place_below { place < 2 ^ 62 }
+    ensures value { result ≡ rounded place align }
+    ensures near { result ≤ place + 7 }
+{
+    (place + (align - 1)) / align * align
+}
+
+#[tactic(auto, unfolding(crate::specs::Layout::below_limit))]
+fn within_limit(size: u64, align: u64) -> Option<Extent>
+    requires low { 0 < align }
+    requires high { align ≤ 8 }
+    ensures value { result ≡ below_limit size align }
+    ensures small { IfSome result IsSmall }
+{
+    if size < LIMIT {
+        Some(Extent { size, align })
+    } else {
+        None
+    }
+}
+
+/// The part of a struct up to a field's end.
+fn add_field(so_far: Extent, field: Extent) -> Option<Extent>
+    requires so_far_small { IsSmall so_far }
+    requires field_small { IsSmall field }
+    ensures value { result ≡ with_field so_far field }
+    ensures small { IfSome result IsSmall }
+{
+    let place = round_up(so_far.size, field.align);
+    within_limit(place + field.size, so_far.align.max(field.align))
+}
+
+/// A row of elements.
+#[tactic(auto, unfolding(crate::specs::Layout::below_limit))]
+fn elements_extent(count: u64, element: Extent) -> Option<Extent>
+    requires { IsSmall element }
+    ensures value { result ≡ below_limit (count * element.size) element.align }
+    ensures small { IfSome result IsSmall }
+{
+    match count.checked_mul(element.size) {
+        Some(size) => within_limit(size, element.align),
+        None => None,
+    }
+}
+
+/// The part of a struct up to the end of the fields.
+#[cycle(extent)]
+fn fields_extent(types: &Types, fields: &[FieldDef], depth: u64) -> Option<Extent>
+    ensures value { result ≡ fields_from (extent_within depth types.now) empty_struct fields.now }
+    ensures small { IfSome result IsSmall }
+{
+    let mut so_far = Extent { size: 0, align: 1 };
+    for field in fields {
+        let extent = extent_at(types, field.ty, depth)?;
+        so_far = add_field(so_far, extent)?;
+    }
+    Some(so_far)
+}
+
+#[cycle(extent)]
+fn struct_extent(types: &Types, place: u32, depth: u64) -> Option<Extent>
+    ensures value { result ≡ struct_by (extent_within depth types.now) (slice_get types.now.structs place) }
+    ensures small { IfSome result IsSmall }
+{
+    let definition = types.structs.get(place as usize)?;
+    if !definition.complete {
+        return None;
+    }
+    let fields = fields_extent(types, definition.fields.as_slice(), depth)?;
+    within_limit(round_up(fields.size, fields.align), fields.align)
+}
+
+#[cycle(extent)]
+fn array_extent(types: &Types, place: u32, count: u64, depth: u64) -> Option<Extent>
+    ensures value { result ≡ elements count (element_by (extent_within depth types.now) (slice_get types.now.tys place)) }
+    ensures small { IfSome result IsSmall }
+{
+    let element = types.tys.get(place as usize)?;
+    let extent = extent_at(types, *element, depth)?;
+    elements_extent(count, extent)
+}
+
+/// The extent of a type whose parts are nested less deep than `depth`.
+#[cycle(extent)]
+#[tactic(auto, using(crate::proofs::LayoutLaws::within_step, crate::proofs::LayoutLaws::within_zero))]
+fn extent_at(types: &Types, ty: Ty, depth: u64) -> Option<Extent>
+    ensures value { result ≡ extent_within depth types.now ty }
+    ensures small { IfSome result IsSmall }
+{
+    if depth == 0 {
+        return None;
+    }
+    match ty {
+        Ty::Void => None,
+        Ty::Int(int) => Some(Extent {
+            size: bytes(int),
+            align: bytes(int),
+        }),
+        Ty::Ptr(_) | Ty::Fun(_) => Some(Extent { size: 8, align: 8 }),
+        Ty::Struct(place) => struct_extent(types, place, depth - 1),
+        Ty::Array(place, count) => array_extent(types, place, count, depth - 1),
+    }
+}
+
+/// More than the types on a way from a type to a part of it, where no type is a part of itself.
+fn depth(types: &Types) -> u64
+    ensures { result ≡ depth_of types.now }
+{
+    let tys = (types.tys.len() as u64).min(PLACES);
+    let structs = (types.structs.len() as u64).min(PLACES);
+    tys + structs + 1
+}
+
+/// The size and the alignment of a type; none for void, an incomplete type, a type that is a part of
+/// itself, and one on whose way a size reaches 2^62 bytes.
+pub fn layout(types: &Types, ty: Ty) -> Option<Extent>
+    ensures value { result ≡ extent_of types.now ty }
+    ensures small { IfSome result IsSmall }
+{
+    let depth = depth(types);
+    extent_at(types, ty, depth)
+}
+
+/// The bytes that a type takes; 0 where it has no [`layout`].
+pub fn size(types: &Types, ty: Ty) -> u64
+    ensures { result ≡ size_of types.now ty }
+{
+    match layout(types, ty) {
+        Some(extent) => extent.size,
+        None => 0,
+    }
+}
+
+/// The alignment of a type, 1, 2, 4 or 8; 0 where it has no [`layout`].
+pub fn align(types: &Types, ty: Ty) -> u64
+    ensures { result ≡ align_of types.now ty }
+{
+    match layout(types, ty) {
+        Some(extent) => extent.align,
+        None => 0,
+    }
+}
+
+/// Where a field of a struct begins, if both are there.
+fn field_place(types: &Types, s: usize, field: usize) -> Option<u64>
+    ensures { result ≡ field_place_of types.now s field }
+{
+    let definition = types.structs.get(s)?;
+    let own = definition.fields.get(field)?;
+    let depth = depth(types);
+    let before = fields_extent(types, &definition.fields.as_slice()[..field], depth)?;
+    let extent = extent_at(types, own.ty, depth)?;
+    Some(round_up(before.size, extent.align))
+}
+
+/// The bytes of a struct before one of its fields, both by number; 0 where the struct has no such
+/// field, or the field or one before it has no [`layout`].
+pub fn offset(types: &Types, s: u32, field: u32) -> u64
+    ensures { result ≡ offset_of types.now s field }
+{
+    match field_place(types, s as usize, field as usize) {
+        Some(place) => place,
+        None => 0,
+    }
+}
+
+#[cfg(test)]
+mod tests;

@@ -1,0 +1,5 @@
+pub mod OperatorLaws
+pub mod PartLaws
+pub mod ExprComplete
+pub mod ExprSound
+pub mod ExprViable

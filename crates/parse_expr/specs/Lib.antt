@@ -1,0 +1,4 @@
+pub mod Operators
+pub mod ExprGrammar
+pub mod Parts
+pub mod ExprMachine
