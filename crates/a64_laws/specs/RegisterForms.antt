@@ -1,0 +1,114 @@
+-- The instructions that read registers and give one a value (Arm ARM, C6.2).
+use Rattle.std.specs.Prelude.{ℕ, Bool, true, false, ◌≢◌}
+use Rattle.a64_isa.specs.declared.instruction.AInstr.{AInstr}
+use Rattle.a64_isa.specs.declared.instruction.AInstr.TheVariants.{AddImmediate, SubImmediate, AddsImmediate, SubsImmediate, AddRegister, SubRegister, AddsRegister, SubsRegister, AndRegister, OrrRegister, EorRegister, OrnRegister, Udiv, Sdiv, Lslv, Lsrv, Asrv, Madd, Msub, Movz, Movk, Movn, Adr, Adrp, Csinc, Ubfm, Sbfm, LdrX, StrX, LdrW, StrW, Ldrh, Strh, Ldrb, Strb, Ldrsb, Ldrsh, Ldrsw, Stp, Ldp, StpPre, LdpPost, B, Bl, BCond, Cbz, Cbnz, Br, Blr, Ret, Nop, Brk}
+
+-- an instruction of registers alone, which gives a value to one that isn't number k
+abbrev pub LeavesRegister : AInstr → ℕ → Type 0
+LeavesRegister (AddImmediate d n imm shift12) k = k ≢ d.0
+LeavesRegister (SubImmediate d n imm shift12) k = k ≢ d.0
+LeavesRegister (AddsImmediate d n imm shift12) k = k ≢ d.0
+LeavesRegister (SubsImmediate d n imm shift12) k = k ≢ d.0
+LeavesRegister (AddRegister d n m) k = k ≢ d.0
+LeavesRegister (SubRegister d n m) k = k ≢ d.0
+LeavesRegister (AddsRegister d n m) k = k ≢ d.0
+LeavesRegister (SubsRegister d n m) k = k ≢ d.0
+LeavesRegister (AndRegister d n m) k = k ≢ d.0
+LeavesRegister (OrrRegister d n m) k = k ≢ d.0
+LeavesRegister (EorRegister d n m) k = k ≢ d.0
+LeavesRegister (OrnRegister d n m) k = k ≢ d.0
+LeavesRegister (Udiv d n m) k = k ≢ d.0
+LeavesRegister (Sdiv d n m) k = k ≢ d.0
+LeavesRegister (Lslv d n m) k = k ≢ d.0
+LeavesRegister (Lsrv d n m) k = k ≢ d.0
+LeavesRegister (Asrv d n m) k = k ≢ d.0
+LeavesRegister (Madd d n a m) k = k ≢ d.0
+LeavesRegister (Msub d n a m) k = k ≢ d.0
+LeavesRegister (Movz d imm hw) k = k ≢ d.0
+LeavesRegister (Movk d imm hw) k = k ≢ d.0
+LeavesRegister (Movn d imm hw) k = k ≢ d.0
+LeavesRegister (Adr d offset) k = k ≢ d.0
+LeavesRegister (Adrp d offset) k = k ≢ d.0
+LeavesRegister (Csinc d n condition m) k = k ≢ d.0
+LeavesRegister (Ubfm d n imms immr) k = k ≢ d.0
+LeavesRegister (Sbfm d n imms immr) k = k ≢ d.0
+LeavesRegister (LdrX t n offset) k = ⊥
+LeavesRegister (StrX t n offset) k = ⊥
+LeavesRegister (LdrW t n offset) k = ⊥
+LeavesRegister (StrW t n offset) k = ⊥
+LeavesRegister (Ldrh t n offset) k = ⊥
+LeavesRegister (Strh t n offset) k = ⊥
+LeavesRegister (Ldrb t n offset) k = ⊥
+LeavesRegister (Strb t n offset) k = ⊥
+LeavesRegister (Ldrsb t n offset) k = ⊥
+LeavesRegister (Ldrsh t n offset) k = ⊥
+LeavesRegister (Ldrsw t n offset) k = ⊥
+LeavesRegister (Stp t n t2 offset) k = ⊥
+LeavesRegister (Ldp t n t2 offset) k = ⊥
+LeavesRegister (StpPre t n t2 offset) k = ⊥
+LeavesRegister (LdpPost t n t2 offset) k = ⊥
+LeavesRegister (B offset) k = ⊥
+LeavesRegister (Bl offset) k = ⊥
+LeavesRegister (BCond condition offset) k = ⊥
+LeavesRegister (Cbz t offset) k = ⊥
+LeavesRegister (Cbnz t offset) k = ⊥
+LeavesRegister (Br n) k = ⊥
+LeavesRegister (Blr n) k = ⊥
+LeavesRegister (Ret n) k = ⊥
+LeavesRegister Nop k = ⊥
+LeavesRegister (Brk imm) k = ⊥
+
+-- it sets the flags
+abbrev pub sets_flags : AInstr → Bool
+sets_flags (AddImmediate d n imm shift12) = false
+sets_flags (SubImmediate d n imm shift12) = false
+sets_flags (AddsImmediate d n imm shift12) = true
+sets_flags (SubsImmediate d n imm shift12) = true
+sets_flags (AddRegister d n m) = false
+sets_flags (SubRegister d n m) = false
+sets_flags (AddsRegister d n m) = true
+sets_flags (SubsRegister d n m) = true
+sets_flags (AndRegister d n m) = false
+sets_flags (OrrRegister d n m) = false
+sets_flags (EorRegister d n m) = false
+sets_flags (OrnRegister d n m) = false
+sets_flags (Udiv d n m) = false
+sets_flags (Sdiv d n m) = false
+sets_flags (Lslv d n m) = false
+sets_flags (Lsrv d n m) = false
+sets_flags (Asrv d n m) = false
+sets_flags (Madd d n a m) = false
+sets_flags (Msub d n a m) = false
+sets_flags (Movz d imm hw) = false
+sets_flags (Movk d imm hw) = false
+sets_flags (Movn d imm hw) = false
+sets_flags (Adr d offset) = false
+sets_flags (Adrp d offset) = false
+sets_flags (Csinc d n condition m) = false
+sets_flags (Ubfm d n imms immr) = false
+sets_flags (Sbfm d n imms immr) = false
+sets_flags (LdrX t n offset) = false
+sets_flags (StrX t n offset) = false
+sets_flags (LdrW t n offset) = false
+sets_flags (StrW t n offset) = false
+sets_flags (Ldrh t n offset) = false
+sets_flags (Strh t n offset) = false
+sets_flags (Ldrb t n offset) = false
+sets_flags (Strb t n offset) = false
+sets_flags (Ldrsb t n offset) = false
+sets_flags (Ldrsh t n offset) = false
+sets_flags (Ldrsw t n offset) = false
+sets_flags (Stp t n t2 offset) = false
+sets_flags (Ldp t n t2 offset) = false
+sets_flags (StpPre t n t2 offset) = false
+sets_flags (LdpPost t n t2 offset) = false
+sets_flags (B offset) = false
+sets_flags (Bl offset) = false
+sets_flags (BCond condition offset) = false
+sets_flags (Cbz t offset) = false
+sets_flags (Cbnz t offset) = false
+sets_flags (Br n) = false
+sets_flags (Blr n) = false
+sets_flags (Ret n) = false
+sets_flags Nop = false
+sets_flags (Brk imm) = false
