@@ -1,5 +1,5 @@
 //! A store in memory. It tells its files.
-ghost use Rattle.std.specs.Prelude.{◌≡◌, ℕ, true, None, IfOk, IsOkUnless, option_copied};
+ghost use Rattle.std.specs.Prelude.{◌≡◌, ℕ, List, true, None, IfOk, IsOkUnless, option_copied};
 ghost use Rattle.hx_io.specs.Files.{SameFiles, SameButAt, Finds, IsWithin, Saves};
 ghost use Rattle.hx_io.specs.MemFiles.{files_of, SavesWhole};
 
@@ -16,7 +16,7 @@ pub struct MemStore {
 impl MemStore {
     /// A store with no file.
     pub fn new(alloc: Global) -> MemStore
-        ensures { (name : _) → files_of result name ≡ None }
+        ensures { (name : List ℕ) → files_of result name ≡ None }
     {
         MemStore {
             files: BTreeMap::new(alloc),

@@ -1,9 +1,10 @@
 //! The system's streams and files, which tell nothing of what they hold.
 //!
 //! No proof says which bytes the system gives or takes. What is proved is that these calls are safe and
-//! end, that a whole file has at most the bytes that were asked for, and that a call answers that it
-//! failed only where the count rose.
-ghost use Rattle.std.specs.Prelude.{◌≤◌, false, [], None, Some, IfOk, IfSome, OnErr};
+//! end, that a whole file has at most the bytes that were asked for, that a call answers that it failed
+//! only where the count rose, and that over a reader or a writer of std that says which bytes it has, as
+//! one in memory does, no byte is lost, repeated or made up.
+ghost use Rattle.std.specs.Prelude.{◌≡◌, ◌≤◌, false, [], None, Some, IfOk, IfSome, OnErr};
 ghost use Rattle.hx_words.specs.Counts.{Rose, most_faults};
 ghost use Rattle.hx_io.specs.Files.{Finds, IsWithin};
 ghost use Rattle.hx_io.specs.Known.{Writes};
@@ -31,7 +32,11 @@ pub struct StdSource<R> {
 
 impl<R> StdSource<R> {
     /// A source of what `reader` gives.
-    pub fn new(reader: R) -> StdSource<R> {
+    pub fn new(reader: R) -> StdSource<R>
+        ensures reader { result.reader ≡ reader }
+        ensures unread { result.end ≤ result.start }
+        ensures faults { result.faults ≡ 0 }
+    {
         StdSource {
             reader,
             chunk: [0; CHUNK],
@@ -108,7 +113,10 @@ pub struct StdSink<W> {
 
 impl<W> StdSink<W> {
     /// A sink into `writer`.
-    pub fn new(writer: W) -> StdSink<W> {
+    pub fn new(writer: W) -> StdSink<W>
+        ensures writer { result.writer ≡ writer }
+        ensures faults { result.faults ≡ 0 }
+    {
         StdSink { writer, faults: 0 }
     }
 }
@@ -141,7 +149,10 @@ pub struct FileStore<R> {
 
 impl<R> FileStore<R> {
     /// The files that `files` opens.
-    pub fn new(files: R) -> FileStore<R> {
+    pub fn new(files: R) -> FileStore<R>
+        ensures files { result.files ≡ files }
+        ensures faults { result.faults ≡ 0 }
+    {
         FileStore { files, faults: 0 }
     }
 }
