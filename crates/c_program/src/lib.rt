@@ -6,11 +6,24 @@
 //! evaluation finds an object and reads nothing of it; [`TypedExpr`] is a value.
 #![tactic(auto)]
 
+mod counting;
 mod expressions;
+mod frames;
+mod named;
 mod program;
 mod statements;
+mod value_types;
 
 pub use c_types::{IntTy, Ty, Types};
+pub use counting::nodes;
 pub use expressions::{Arithmetic, Comparison, Place, Service, Target, TypedExpr};
-pub use program::{AdjustDef, Constant, FunDef, FunctionBody, GlobalBody, GlobalDef, PathStep, Program};
+pub use frames::frame_bytes;
+pub use named::function_named;
+pub use program::{
+    AdjustDef, Constant, FunDef, FunctionBody, GlobalBody, GlobalDef, PathStep, Program,
+};
 pub use statements::{Declared, ForBegin, TypedItem, TypedStmt};
+pub use value_types::type_of;
+
+#[cfg(test)]
+mod tests;

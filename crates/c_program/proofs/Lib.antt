@@ -1,0 +1,3 @@
+pub mod ValueTypeLaws
+pub mod NodeLaws
+pub mod ByteLaws

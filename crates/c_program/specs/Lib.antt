@@ -1,0 +1,4 @@
+pub mod ValueTypes
+pub mod Nodes
+pub mod FrameBytes
+pub mod Named
