@@ -1,0 +1,8 @@
+use Rattle.std.proofs.Common.{arith}
+use Rattle.std.proofs.lemmas.Int.{to_z-of_z}
+use Rattle.c_values.specs.Numbers.{complemented}
+use Rattle.c_values.proofs.numbers.complement.Goals as goal
+
+pub returns : goal.returns
+unfolding complemented
+returns c = grind (arith, to_z-of_z)

@@ -1,0 +1,4 @@
+pub mod formers
+pub mod Numbers
+pub mod Objects
+pub mod Worked
