@@ -1,0 +1,4 @@
+mod Steady
+mod Grows
+mod Steps
+mod Examples
