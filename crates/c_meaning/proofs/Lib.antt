@@ -1,4 +1,4 @@
-mod Steady
-mod Grows
-mod Steps
+pub mod Steady
+pub mod Grows
+pub mod Steps
 mod Examples
