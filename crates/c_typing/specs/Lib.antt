@@ -5,3 +5,9 @@ pub mod Conversions
 pub mod Expressions
 pub mod Statements
 pub mod Initials
+pub mod Heads
+pub mod Structs
+pub mod Externals
+pub mod Adjustors
+pub mod Items
+pub mod Units
