@@ -1,0 +1,3 @@
+pub mod ExprLaws
+pub mod StmtLaws
+pub mod InitLaws
