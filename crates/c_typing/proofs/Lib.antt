@@ -1,3 +1,4 @@
 pub mod ExprLaws
 pub mod StmtLaws
 pub mod InitLaws
+pub mod Rows

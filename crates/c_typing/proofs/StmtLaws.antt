@@ -26,68 +26,68 @@ use Rattle.c_typing.specs.declared.tables.Tables.{Tables}
 use Rattle.c_typing.specs.declared.tables.Enclosing.{Enclosing}
 use Rattle.c_typing.specs.Visits.{Visit, ◌>>=◌, give, judged, optionally}
 use Rattle.c_typing.specs.Scopes.{inside}
-use Rattle.c_typing.specs.Statements.{Scoped, ItemVisit, StmtVisit, visit_item_at, visit_stmt_at, visit_item, visit_stmt, visit_local, visit_value, visit_effect, in_block, jump, visit_if, visit_if_else, visit_while, visit_do, visit_for, returned, started, ended}
+use Rattle.c_typing.specs.Statements.{Scoped, ItemVisit, StmtVisit, visit_block_item_at, visit_stmt_at, visit_block_item, visit_stmt, visit_local, visit_value, visit_effect, items_in_order, jump, visit_if, visit_if_else, visit_while, visit_do, visit_for, returned, started, ended}
 
-pub visit_item-Local : (unit : UnitScope) (f : Enclosing) (d : Local) (locals : LocalScope) (loop : Bool) (t : Tables) → visit_item unit f (block_item.Local d) locals loop t ≡ (visit_local unit f locals d) t
-unfolding visit_item visit_stmt
-visit_item-Local unit f d locals loop t = ap (λ (v : ItemVisit). v locals loop t) (ap (fold-BlockItem ItemVisit StmtVisit (visit_item_at unit f) (visit_stmt_at unit f)) (sym (rolls-BlockItem-Local d)) ∙ fold-roll-BlockItem ItemVisit StmtVisit (visit_item_at unit f) (visit_stmt_at unit f) (BlockItem-F.Local d))
+pub visit_block_item-Local : (unit : UnitScope) (f : Enclosing) (d : Local) (locals : LocalScope) (loop : Bool) (t : Tables) → visit_block_item unit f (block_item.Local d) locals loop t ≡ (visit_local unit f locals d) t
+unfolding visit_block_item visit_stmt
+visit_block_item-Local unit f d locals loop t = ap (λ (v : ItemVisit). v locals loop t) (ap (fold-BlockItem ItemVisit StmtVisit (visit_block_item_at unit f) (visit_stmt_at unit f)) (sym (rolls-BlockItem-Local d)) ∙ fold-roll-BlockItem ItemVisit StmtVisit (visit_block_item_at unit f) (visit_stmt_at unit f) (BlockItem-F.Local d))
 
-pub visit_item-Stmt : (unit : UnitScope) (f : Enclosing) (x : Stmt) (locals : LocalScope) (loop : Bool) (t : Tables) → visit_item unit f (block_item.Stmt x) locals loop t ≡ (visit_stmt unit f x locals loop >>= (λ y. give (record { part = item.Stmt y ∷ []; locals = locals }))) t
-unfolding visit_item visit_stmt
-visit_item-Stmt unit f x locals loop t = ap (λ (v : ItemVisit). v locals loop t) (ap (fold-BlockItem ItemVisit StmtVisit (visit_item_at unit f) (visit_stmt_at unit f)) (sym (rolls-BlockItem-Stmt x)) ∙ fold-roll-BlockItem ItemVisit StmtVisit (visit_item_at unit f) (visit_stmt_at unit f) (BlockItem-F.Stmt x))
+pub visit_block_item-Stmt : (unit : UnitScope) (f : Enclosing) (x : Stmt) (locals : LocalScope) (loop : Bool) (t : Tables) → visit_block_item unit f (block_item.Stmt x) locals loop t ≡ (visit_stmt unit f x locals loop >>= (λ y. give (record { part = item.Stmt y ∷ []; locals = locals }))) t
+unfolding visit_block_item visit_stmt
+visit_block_item-Stmt unit f x locals loop t = ap (λ (v : ItemVisit). v locals loop t) (ap (fold-BlockItem ItemVisit StmtVisit (visit_block_item_at unit f) (visit_stmt_at unit f)) (sym (rolls-BlockItem-Stmt x)) ∙ fold-roll-BlockItem ItemVisit StmtVisit (visit_block_item_at unit f) (visit_stmt_at unit f) (BlockItem-F.Stmt x))
 
-pub visit_stmt-Block : (unit : UnitScope) (f : Enclosing) (s : Span) (xs : List BlockItem) (locals : LocalScope) (loop : Bool) (t : Tables) → visit_stmt unit f (stmt.Block s xs) locals loop t ≡ (in_block (map (visit_item unit f) xs) (inside locals) loop >>= (λ x. give (typed.Block x.part))) t
-unfolding visit_item visit_stmt
-visit_stmt-Block unit f s xs locals loop t = ap (λ (v : StmtVisit). v locals loop t) (ap (fold-Stmt ItemVisit StmtVisit (visit_item_at unit f) (visit_stmt_at unit f)) (sym (rolls-Stmt-Block s xs)) ∙ fold-roll-Stmt ItemVisit StmtVisit (visit_item_at unit f) (visit_stmt_at unit f) (Stmt-F.Block s xs))
+pub visit_stmt-Block : (unit : UnitScope) (f : Enclosing) (s : Span) (xs : List BlockItem) (locals : LocalScope) (loop : Bool) (t : Tables) → visit_stmt unit f (stmt.Block s xs) locals loop t ≡ (items_in_order (map (visit_block_item unit f) xs) (inside locals) loop >>= (λ x. give (typed.Block x.part))) t
+unfolding visit_block_item visit_stmt
+visit_stmt-Block unit f s xs locals loop t = ap (λ (v : StmtVisit). v locals loop t) (ap (fold-Stmt ItemVisit StmtVisit (visit_block_item_at unit f) (visit_stmt_at unit f)) (sym (rolls-Stmt-Block s xs)) ∙ fold-roll-Stmt ItemVisit StmtVisit (visit_block_item_at unit f) (visit_stmt_at unit f) (Stmt-F.Block s xs))
 
 pub visit_stmt-Empty : (unit : UnitScope) (f : Enclosing) (s : Span) (locals : LocalScope) (loop : Bool) (t : Tables) → visit_stmt unit f (stmt.Empty s) locals loop t ≡ (give typed.Empty) t
-unfolding visit_item visit_stmt
-visit_stmt-Empty unit f s locals loop t = ap (λ (v : StmtVisit). v locals loop t) (ap (fold-Stmt ItemVisit StmtVisit (visit_item_at unit f) (visit_stmt_at unit f)) (sym (rolls-Stmt-Empty s)) ∙ fold-roll-Stmt ItemVisit StmtVisit (visit_item_at unit f) (visit_stmt_at unit f) (Stmt-F.Empty s))
+unfolding visit_block_item visit_stmt
+visit_stmt-Empty unit f s locals loop t = ap (λ (v : StmtVisit). v locals loop t) (ap (fold-Stmt ItemVisit StmtVisit (visit_block_item_at unit f) (visit_stmt_at unit f)) (sym (rolls-Stmt-Empty s)) ∙ fold-roll-Stmt ItemVisit StmtVisit (visit_block_item_at unit f) (visit_stmt_at unit f) (Stmt-F.Empty s))
 
 pub visit_stmt-Effect : (unit : UnitScope) (f : Enclosing) (e : Expr) (locals : LocalScope) (loop : Bool) (t : Tables) → visit_stmt unit f (stmt.Effect e) locals loop t ≡ (visit_effect unit locals e >>= (λ x. give (typed.Effect x))) t
-unfolding visit_item visit_stmt
-visit_stmt-Effect unit f e locals loop t = ap (λ (v : StmtVisit). v locals loop t) (ap (fold-Stmt ItemVisit StmtVisit (visit_item_at unit f) (visit_stmt_at unit f)) (sym (rolls-Stmt-Effect e)) ∙ fold-roll-Stmt ItemVisit StmtVisit (visit_item_at unit f) (visit_stmt_at unit f) (Stmt-F.Effect e))
+unfolding visit_block_item visit_stmt
+visit_stmt-Effect unit f e locals loop t = ap (λ (v : StmtVisit). v locals loop t) (ap (fold-Stmt ItemVisit StmtVisit (visit_block_item_at unit f) (visit_stmt_at unit f)) (sym (rolls-Stmt-Effect e)) ∙ fold-roll-Stmt ItemVisit StmtVisit (visit_block_item_at unit f) (visit_stmt_at unit f) (Stmt-F.Effect e))
 
 pub visit_stmt-Break : (unit : UnitScope) (f : Enclosing) (s : Span) (locals : LocalScope) (loop : Bool) (t : Tables) → visit_stmt unit f (stmt.Break s) locals loop t ≡ (jump s.start typed.Break loop) t
-unfolding visit_item visit_stmt
-visit_stmt-Break unit f s locals loop t = ap (λ (v : StmtVisit). v locals loop t) (ap (fold-Stmt ItemVisit StmtVisit (visit_item_at unit f) (visit_stmt_at unit f)) (sym (rolls-Stmt-Break s)) ∙ fold-roll-Stmt ItemVisit StmtVisit (visit_item_at unit f) (visit_stmt_at unit f) (Stmt-F.Break s))
+unfolding visit_block_item visit_stmt
+visit_stmt-Break unit f s locals loop t = ap (λ (v : StmtVisit). v locals loop t) (ap (fold-Stmt ItemVisit StmtVisit (visit_block_item_at unit f) (visit_stmt_at unit f)) (sym (rolls-Stmt-Break s)) ∙ fold-roll-Stmt ItemVisit StmtVisit (visit_block_item_at unit f) (visit_stmt_at unit f) (Stmt-F.Break s))
 
 pub visit_stmt-Continue : (unit : UnitScope) (f : Enclosing) (s : Span) (locals : LocalScope) (loop : Bool) (t : Tables) → visit_stmt unit f (stmt.Continue s) locals loop t ≡ (jump s.start typed.Continue loop) t
-unfolding visit_item visit_stmt
-visit_stmt-Continue unit f s locals loop t = ap (λ (v : StmtVisit). v locals loop t) (ap (fold-Stmt ItemVisit StmtVisit (visit_item_at unit f) (visit_stmt_at unit f)) (sym (rolls-Stmt-Continue s)) ∙ fold-roll-Stmt ItemVisit StmtVisit (visit_item_at unit f) (visit_stmt_at unit f) (Stmt-F.Continue s))
+unfolding visit_block_item visit_stmt
+visit_stmt-Continue unit f s locals loop t = ap (λ (v : StmtVisit). v locals loop t) (ap (fold-Stmt ItemVisit StmtVisit (visit_block_item_at unit f) (visit_stmt_at unit f)) (sym (rolls-Stmt-Continue s)) ∙ fold-roll-Stmt ItemVisit StmtVisit (visit_block_item_at unit f) (visit_stmt_at unit f) (Stmt-F.Continue s))
 
 pub visit_stmt-If : (unit : UnitScope) (f : Enclosing) (s : Span) (c : Expr) (x : Stmt) (locals : LocalScope) (loop : Bool) (t : Tables) → visit_stmt unit f (stmt.If s c x) locals loop t ≡ (visit_if s.start (visit_value unit locals c) (visit_stmt unit f x locals loop)) t
-unfolding visit_item visit_stmt
-visit_stmt-If unit f s c x locals loop t = ap (λ (v : StmtVisit). v locals loop t) (ap (fold-Stmt ItemVisit StmtVisit (visit_item_at unit f) (visit_stmt_at unit f)) (sym (rolls-Stmt-If s c x)) ∙ fold-roll-Stmt ItemVisit StmtVisit (visit_item_at unit f) (visit_stmt_at unit f) (Stmt-F.If s c x))
+unfolding visit_block_item visit_stmt
+visit_stmt-If unit f s c x locals loop t = ap (λ (v : StmtVisit). v locals loop t) (ap (fold-Stmt ItemVisit StmtVisit (visit_block_item_at unit f) (visit_stmt_at unit f)) (sym (rolls-Stmt-If s c x)) ∙ fold-roll-Stmt ItemVisit StmtVisit (visit_block_item_at unit f) (visit_stmt_at unit f) (Stmt-F.If s c x))
 
 pub visit_stmt-IfElse : (unit : UnitScope) (f : Enclosing) (s : Span) (c : Expr) (x : Stmt) (y : Stmt) (locals : LocalScope) (loop : Bool) (t : Tables) → visit_stmt unit f (stmt.IfElse s c x y) locals loop t ≡ (visit_if_else s.start (visit_value unit locals c) (visit_stmt unit f x locals loop) (visit_stmt unit f y locals loop)) t
-unfolding visit_item visit_stmt
-visit_stmt-IfElse unit f s c x y locals loop t = ap (λ (v : StmtVisit). v locals loop t) (ap (fold-Stmt ItemVisit StmtVisit (visit_item_at unit f) (visit_stmt_at unit f)) (sym (rolls-Stmt-IfElse s c x y)) ∙ fold-roll-Stmt ItemVisit StmtVisit (visit_item_at unit f) (visit_stmt_at unit f) (Stmt-F.IfElse s c x y))
+unfolding visit_block_item visit_stmt
+visit_stmt-IfElse unit f s c x y locals loop t = ap (λ (v : StmtVisit). v locals loop t) (ap (fold-Stmt ItemVisit StmtVisit (visit_block_item_at unit f) (visit_stmt_at unit f)) (sym (rolls-Stmt-IfElse s c x y)) ∙ fold-roll-Stmt ItemVisit StmtVisit (visit_block_item_at unit f) (visit_stmt_at unit f) (Stmt-F.IfElse s c x y))
 
 pub visit_stmt-While : (unit : UnitScope) (f : Enclosing) (s : Span) (c : Expr) (x : Stmt) (locals : LocalScope) (loop : Bool) (t : Tables) → visit_stmt unit f (stmt.While s c x) locals loop t ≡ (visit_while s.start (visit_value unit locals c) (visit_stmt unit f x locals true)) t
-unfolding visit_item visit_stmt
-visit_stmt-While unit f s c x locals loop t = ap (λ (v : StmtVisit). v locals loop t) (ap (fold-Stmt ItemVisit StmtVisit (visit_item_at unit f) (visit_stmt_at unit f)) (sym (rolls-Stmt-While s c x)) ∙ fold-roll-Stmt ItemVisit StmtVisit (visit_item_at unit f) (visit_stmt_at unit f) (Stmt-F.While s c x))
+unfolding visit_block_item visit_stmt
+visit_stmt-While unit f s c x locals loop t = ap (λ (v : StmtVisit). v locals loop t) (ap (fold-Stmt ItemVisit StmtVisit (visit_block_item_at unit f) (visit_stmt_at unit f)) (sym (rolls-Stmt-While s c x)) ∙ fold-roll-Stmt ItemVisit StmtVisit (visit_block_item_at unit f) (visit_stmt_at unit f) (Stmt-F.While s c x))
 
 pub visit_stmt-Do : (unit : UnitScope) (f : Enclosing) (s : Span) (x : Stmt) (c : Expr) (locals : LocalScope) (loop : Bool) (t : Tables) → visit_stmt unit f (stmt.Do s x c) locals loop t ≡ (visit_do s.start (visit_stmt unit f x locals true) (visit_value unit locals c)) t
-unfolding visit_item visit_stmt
-visit_stmt-Do unit f s x c locals loop t = ap (λ (v : StmtVisit). v locals loop t) (ap (fold-Stmt ItemVisit StmtVisit (visit_item_at unit f) (visit_stmt_at unit f)) (sym (rolls-Stmt-Do s x c)) ∙ fold-roll-Stmt ItemVisit StmtVisit (visit_item_at unit f) (visit_stmt_at unit f) (Stmt-F.Do s x c))
+unfolding visit_block_item visit_stmt
+visit_stmt-Do unit f s x c locals loop t = ap (λ (v : StmtVisit). v locals loop t) (ap (fold-Stmt ItemVisit StmtVisit (visit_block_item_at unit f) (visit_stmt_at unit f)) (sym (rolls-Stmt-Do s x c)) ∙ fold-roll-Stmt ItemVisit StmtVisit (visit_block_item_at unit f) (visit_stmt_at unit f) (Stmt-F.Do s x c))
 
 pub visit_stmt-For : (unit : UnitScope) (f : Enclosing) (s : Span) (a : ForStart) (c : Option Expr) (b : Option Expr) (x : Stmt) (locals : LocalScope) (loop : Bool) (t : Tables) → visit_stmt unit f (stmt.For s a c b x) locals loop t ≡ (visit_for unit s.start a c b (visit_stmt unit f x) locals) t
-unfolding visit_item visit_stmt
-visit_stmt-For unit f s a c b x locals loop t = ap (λ (v : StmtVisit). v locals loop t) (ap (fold-Stmt ItemVisit StmtVisit (visit_item_at unit f) (visit_stmt_at unit f)) (sym (rolls-Stmt-For s a c b x)) ∙ fold-roll-Stmt ItemVisit StmtVisit (visit_item_at unit f) (visit_stmt_at unit f) (Stmt-F.For s a c b x))
+unfolding visit_block_item visit_stmt
+visit_stmt-For unit f s a c b x locals loop t = ap (λ (v : StmtVisit). v locals loop t) (ap (fold-Stmt ItemVisit StmtVisit (visit_block_item_at unit f) (visit_stmt_at unit f)) (sym (rolls-Stmt-For s a c b x)) ∙ fold-roll-Stmt ItemVisit StmtVisit (visit_block_item_at unit f) (visit_stmt_at unit f) (Stmt-F.For s a c b x))
 
 pub visit_stmt-Return : (unit : UnitScope) (f : Enclosing) (s : Span) (e : Option Expr) (locals : LocalScope) (loop : Bool) (t : Tables) → visit_stmt unit f (stmt.Return s e) locals loop t ≡ (optionally (visit_value unit locals) e >>= (λ v. judged (returned f s.start v) >>= (λ x. give (typed.Return x)))) t
-unfolding visit_item visit_stmt
-visit_stmt-Return unit f s e locals loop t = ap (λ (v : StmtVisit). v locals loop t) (ap (fold-Stmt ItemVisit StmtVisit (visit_item_at unit f) (visit_stmt_at unit f)) (sym (rolls-Stmt-Return s e)) ∙ fold-roll-Stmt ItemVisit StmtVisit (visit_item_at unit f) (visit_stmt_at unit f) (Stmt-F.Return s e))
+unfolding visit_block_item visit_stmt
+visit_stmt-Return unit f s e locals loop t = ap (λ (v : StmtVisit). v locals loop t) (ap (fold-Stmt ItemVisit StmtVisit (visit_block_item_at unit f) (visit_stmt_at unit f)) (sym (rolls-Stmt-Return s e)) ∙ fold-roll-Stmt ItemVisit StmtVisit (visit_block_item_at unit f) (visit_stmt_at unit f) (Stmt-F.Return s e))
 
 pub visit_stmt-VaStart : (unit : UnitScope) (f : Enclosing) (s : Span) (l : Name) (n : Name) (locals : LocalScope) (loop : Bool) (t : Tables) → visit_stmt unit f (stmt.VaStart s l n) locals loop t ≡ (judged (started unit f locals s.start l n)) t
-unfolding visit_item visit_stmt
-visit_stmt-VaStart unit f s l n locals loop t = ap (λ (v : StmtVisit). v locals loop t) (ap (fold-Stmt ItemVisit StmtVisit (visit_item_at unit f) (visit_stmt_at unit f)) (sym (rolls-Stmt-VaStart s l n)) ∙ fold-roll-Stmt ItemVisit StmtVisit (visit_item_at unit f) (visit_stmt_at unit f) (Stmt-F.VaStart s l n))
+unfolding visit_block_item visit_stmt
+visit_stmt-VaStart unit f s l n locals loop t = ap (λ (v : StmtVisit). v locals loop t) (ap (fold-Stmt ItemVisit StmtVisit (visit_block_item_at unit f) (visit_stmt_at unit f)) (sym (rolls-Stmt-VaStart s l n)) ∙ fold-roll-Stmt ItemVisit StmtVisit (visit_block_item_at unit f) (visit_stmt_at unit f) (Stmt-F.VaStart s l n))
 
 pub visit_stmt-VaEnd : (unit : UnitScope) (f : Enclosing) (s : Span) (l : Name) (locals : LocalScope) (loop : Bool) (t : Tables) → visit_stmt unit f (stmt.VaEnd s l) locals loop t ≡ (judged (ended unit locals s.start l)) t
-unfolding visit_item visit_stmt
-visit_stmt-VaEnd unit f s l locals loop t = ap (λ (v : StmtVisit). v locals loop t) (ap (fold-Stmt ItemVisit StmtVisit (visit_item_at unit f) (visit_stmt_at unit f)) (sym (rolls-Stmt-VaEnd s l)) ∙ fold-roll-Stmt ItemVisit StmtVisit (visit_item_at unit f) (visit_stmt_at unit f) (Stmt-F.VaEnd s l))
+unfolding visit_block_item visit_stmt
+visit_stmt-VaEnd unit f s l locals loop t = ap (λ (v : StmtVisit). v locals loop t) (ap (fold-Stmt ItemVisit StmtVisit (visit_block_item_at unit f) (visit_stmt_at unit f)) (sym (rolls-Stmt-VaEnd s l)) ∙ fold-roll-Stmt ItemVisit StmtVisit (visit_block_item_at unit f) (visit_stmt_at unit f) (Stmt-F.VaEnd s l))
 
-pub ruleset item_visits = (visit_item-Local, visit_item-Stmt)
+pub ruleset block_item_visits = (visit_block_item-Local, visit_block_item-Stmt)
 
 pub ruleset stmt_visits = (visit_stmt-Block, visit_stmt-Empty, visit_stmt-Effect, visit_stmt-Break, visit_stmt-Continue, visit_stmt-If, visit_stmt-IfElse, visit_stmt-While, visit_stmt-Do, visit_stmt-For, visit_stmt-Return, visit_stmt-VaStart, visit_stmt-VaEnd)

@@ -107,20 +107,20 @@ target_of at v t (Struct k) = Err (fault kind.NotPointer at)
 target_of at v t (Array k n) = Err (fault kind.NotPointer at)
 
 -- `*` of a pointer finds its target; of a function pointer it gives that pointer (6.5.3.2p4)
-unfoldable pub target : ℕ → Value → Types → Result Operand Fault
-target at v t = target_of at v t v.ty
+unfoldable pub pointed_at : ℕ → Value → Types → Result Operand Fault
+pointed_at at v t = target_of at v t v.ty
 
 -- a place that can be assigned (6.3.2.1p1: a modifiable lvalue)
-abbrev pub place_in : ℕ → Designated → Result (Ty × Place) Fault
-place_in at (designated.Value v) = Err (fault kind.NotPlace at)
-place_in at (designated.Place ty p local) = if is_array ty then Err (fault kind.NotPlace at) else Ok (ty, p)
-place_in at (designated.Function k f) = Err (fault kind.NotPlace at)
-place_in at (designated.Service s) = Err (fault kind.NotPlace at)
-place_in at designated.Typedef = Err (fault kind.NotPlace at)
-place_in at designated.VaList = Err (fault kind.NotPlace at)
+abbrev pub assignable_at : ℕ → Designated → Result (Ty × Place) Fault
+assignable_at at (designated.Value v) = Err (fault kind.NotPlace at)
+assignable_at at (designated.Place ty p local) = if is_array ty then Err (fault kind.NotPlace at) else Ok (ty, p)
+assignable_at at (designated.Function k f) = Err (fault kind.NotPlace at)
+assignable_at at (designated.Service s) = Err (fault kind.NotPlace at)
+assignable_at at designated.Typedef = Err (fault kind.NotPlace at)
+assignable_at at designated.VaList = Err (fault kind.NotPlace at)
 
 unfoldable pub as_place : ℕ → Operand → Result (Ty × Place) Fault
-as_place at o = place_in at o.what
+as_place at o = assignable_at at o.what
 
 -- a place of integer type, for `++`, `--` and compound assignments
 unfoldable pub integer_place : ℕ → Operand → Result (IntTy × Place) Fault
@@ -141,7 +141,7 @@ unary prefix.Plus at o = judged (and_then (as_value o) (kept at))
 unary prefix.Complement at o = judged (and_then (as_value o) (complemented at))
 unary prefix.Not at o = judged (and_then (as_value o) (denied at))
 unary prefix.Address at o = addressed at o
-unary prefix.Indirect at o = looked (λ t. and_then (as_value o) (λ v. target at v t.types))
+unary prefix.Indirect at o = looked (λ t. and_then (as_value o) (λ v. pointed_at at v t.types))
 
 -- `( inttype ) e` (6.5.4) is a conversion also where the type stays
 unfoldable pub cast : ℕ → IntTy → Value → Result Operand Fault
@@ -212,8 +212,8 @@ chosen at c l r = and_then (as_scalar at c) (λ test. and_then (or_fault kind.Mi
 
 -- Assignments (6.5.16)
 
-unfoldable pub set : ℕ → Operand → Value → Result Operand Fault
-set at o v = and_then (as_place at o) (λ p. and_then (or_fault kind.Mismatch at (converted_to p.0 v)) (λ e. Ok (given at p.0 (typed.Assign p.0 p.1 e))))
+unfoldable pub stored : ℕ → Operand → Value → Result Operand Fault
+stored at o v = and_then (as_place at o) (λ p. and_then (or_fault kind.Mismatch at (converted_to p.0 v)) (λ e. Ok (given at p.0 (typed.Assign p.0 p.1 e))))
 
 -- the type in which a compound assignment works: that of its operator between the two values
 abbrev pub work_type : Arithmetic → IntTy → IntTy → IntTy
@@ -233,7 +233,7 @@ unfoldable pub updated : Arithmetic → ℕ → Operand → Value → Result Ope
 updated op at o v = and_then (integer_place at o) (λ p. and_then (integer_of at v) (λ j. Ok (given at (Int p.0) (typed.Update op p.0 (work_type op p.0 j) p.1 v.tree))))
 
 abbrev pub assigned : AssignOp → ℕ → Operand → Value → Result Operand Fault
-assigned assign.Set at o v = set at o v
+assigned assign.Set at o v = stored at o v
 assigned assign.Add at o v = updated arithmetic.Add at o v
 assigned assign.Subtract at o v = updated arithmetic.Subtract at o v
 assigned assign.Multiply at o v = updated arithmetic.Multiply at o v

@@ -42,15 +42,15 @@ written None n = n.value
 written (Some s) n = number_in n.ty (2 ^ 64 - n.value)
 
 -- the literal 0 as a pointer has no `-`
-abbrev pub is_zero : Option Span → Literal → Bool
-is_zero None n = n.value == 0
-is_zero (Some s) n = false
+abbrev pub is_null_literal : Option Span → Literal → Bool
+is_null_literal None n = n.value == 0
+is_null_literal (Some s) n = false
 
 abbrev pub number_at : ℕ → Option Span → Literal → InitVisit
 number_at at m n Void = Err (fault kind.BadInitial at)
 number_at at m n (Int i) = Ok (constant.Number i (number_in i (written m n)))
-number_at at m n (Ptr k) = if is_zero m n then Ok constant.Zero else Err (fault kind.BadInitial at)
-number_at at m n (Fun k) = if is_zero m n then Ok constant.Zero else Err (fault kind.BadInitial at)
+number_at at m n (Ptr k) = if is_null_literal m n then Ok constant.Zero else Err (fault kind.BadInitial at)
+number_at at m n (Fun k) = if is_null_literal m n then Ok constant.Zero else Err (fault kind.BadInitial at)
 number_at at m n (Struct s) = Err (fault kind.BadInitial at)
 number_at at m n (Array k l) = Err (fault kind.BadInitial at)
 
@@ -114,9 +114,9 @@ abbrev pub one_step : Types → Step → Ty → Result Part Fault
 one_step t (step.Field s n) ty = field_in s.start t n.text ty
 one_step t (step.Index s n) ty = element_in s.start t n.value ty
 
-unfoldable pub stepped : Types → List Step → Ty → Result Part Fault
-stepped t [] ty = Ok (record { ty = ty; steps = [] })
-stepped t (x ∷ xs) ty = and_then (one_step t x ty) (λ p. and_then (stepped t xs p.ty) (λ q. Ok (record { ty = q.ty; steps = p.steps ++ q.steps })))
+unfoldable pub part_by_steps : Types → List Step → Ty → Result Part Fault
+part_by_steps t [] ty = Ok (record { ty = ty; steps = [] })
+part_by_steps t (x ∷ xs) ty = and_then (one_step t x ty) (λ p. and_then (part_by_steps t xs p.ty) (λ q. Ok (record { ty = q.ty; steps = p.steps ++ q.steps })))
 
 -- the first step of a path into what has no parts
 abbrev pub no_part : List Step → Result (Unit {0}) Fault
@@ -141,7 +141,7 @@ name_means at t a xs None ty = Err (fault kind.BadInitial at)
 name_means at t a xs (Some (Typedef k)) ty = and_then (no_part xs) (λ u. Err (fault kind.BadInitial at))
 name_means at t a xs (Some (Function f k)) ty = and_then (no_part xs) (λ u. function_at at k (target.Function f) ty)
 name_means at t a xs (Some (Adjustor f k)) ty = and_then (no_part xs) (λ u. function_at at k (target.Adjustor f) ty)
-name_means at t a xs (Some (Global g s)) ty = and_then (stepped t xs s) (λ p. address_at at a g t p ty)
+name_means at t a xs (Some (Global g s)) ty = and_then (part_by_steps t xs s) (λ p. address_at at a g t p ty)
 
 -- the address of a part of a global after `&`, or a function with `&` or without (6.6p9); the name of a
 -- service is no constant

@@ -11,3 +11,4 @@ pub mod Externals
 pub mod Adjustors
 pub mod Items
 pub mod Units
+pub mod Examples

@@ -131,11 +131,11 @@ ItemVisit = LocalScope → Bool → Visit Tables (Scoped (List TypedItem))
 abbrev pub StmtVisit : Type 0
 StmtVisit = LocalScope → Bool → Visit Tables TypedStmt
 
-unfoldable pub in_block : List ItemVisit → ItemVisit
-in_block [] locals loop = give (record { part = []; locals = locals })
-in_block (v ∷ vs) locals loop =
+unfoldable pub items_in_order : List ItemVisit → ItemVisit
+items_in_order [] locals loop = give (record { part = []; locals = locals })
+items_in_order (v ∷ vs) locals loop =
     v locals loop >>= (λ first.
-    in_block vs first.locals loop >>= (λ rest.
+    items_in_order vs first.locals loop >>= (λ rest.
     give (record { part = first.part ++ rest.part; locals = rest.locals })))
 
 abbrev pub visit_start : UnitScope → LocalScope → ForStart → Visit Tables (Scoped ForBegin)
@@ -143,9 +143,9 @@ visit_start unit locals (start.Local b ds) = visit_declarators unit locals b ds 
 visit_start unit locals (start.Effect e) = visit_effect unit locals e >>= (λ x. give (record { part = begin.Effect x; locals = locals }))
 visit_start unit locals start.Nothing = give (record { part = begin.Nothing; locals = locals })
 
-abbrev pub visit_item_at : UnitScope → Enclosing → BlockItem-F ItemVisit StmtVisit → ItemVisit
-visit_item_at unit f (BlockItem-F.Local d) locals loop = visit_local unit f locals d
-visit_item_at unit f (BlockItem-F.Stmt x) locals loop = x locals loop >>= (λ y. give (record { part = item.Stmt y ∷ []; locals = locals }))
+abbrev pub visit_block_item_at : UnitScope → Enclosing → BlockItem-F ItemVisit StmtVisit → ItemVisit
+visit_block_item_at unit f (BlockItem-F.Local d) locals loop = visit_local unit f locals d
+visit_block_item_at unit f (BlockItem-F.Stmt x) locals loop = x locals loop >>= (λ y. give (record { part = item.Stmt y ∷ []; locals = locals }))
 
 -- `break` and `continue` stand in a loop (6.8.6.2, 6.8.6.3)
 abbrev pub jump : ℕ → TypedStmt → Bool → Visit Tables TypedStmt
@@ -175,7 +175,7 @@ visit_for unit at a c b x locals =
     give (typed.For first.part e step body))))))
 
 abbrev pub visit_stmt_at : UnitScope → Enclosing → Stmt-F ItemVisit StmtVisit → StmtVisit
-visit_stmt_at unit f (Stmt-F.Block s xs) locals loop = in_block xs (inside locals) loop >>= (λ x. give (typed.Block x.part))
+visit_stmt_at unit f (Stmt-F.Block s xs) locals loop = items_in_order xs (inside locals) loop >>= (λ x. give (typed.Block x.part))
 visit_stmt_at unit f (Stmt-F.Empty s) locals loop = give typed.Empty
 visit_stmt_at unit f (Stmt-F.Effect e) locals loop = visit_effect unit locals e >>= (λ x. give (typed.Effect x))
 visit_stmt_at unit f (Stmt-F.Break s) locals loop = jump s.start typed.Break loop
@@ -189,12 +189,12 @@ visit_stmt_at unit f (Stmt-F.Return s e) locals loop = optionally (visit_value u
 visit_stmt_at unit f (Stmt-F.VaStart s l n) locals loop = judged (started unit f locals s.start l n)
 visit_stmt_at unit f (Stmt-F.VaEnd s l) locals loop = judged (ended unit locals s.start l)
 
-unfoldable pub visit_item : UnitScope → Enclosing → BlockItem → ItemVisit
-visit_item unit f = fold-BlockItem ItemVisit StmtVisit (visit_item_at unit f) (visit_stmt_at unit f)
+unfoldable pub visit_block_item : UnitScope → Enclosing → BlockItem → ItemVisit
+visit_block_item unit f = fold-BlockItem ItemVisit StmtVisit (visit_block_item_at unit f) (visit_stmt_at unit f)
 
 unfoldable pub visit_stmt : UnitScope → Enclosing → Stmt → StmtVisit
-visit_stmt unit f = fold-Stmt ItemVisit StmtVisit (visit_item_at unit f) (visit_stmt_at unit f)
+visit_stmt unit f = fold-Stmt ItemVisit StmtVisit (visit_block_item_at unit f) (visit_stmt_at unit f)
 
 -- the block of a function, which is the scope of its parameters too (6.2.1p4)
 abbrev pub visit_body : UnitScope → Enclosing → LocalScope → List BlockItem → Visit Tables (Scoped (List TypedItem))
-visit_body unit f parameters items = in_block (map (visit_item unit f) items) parameters false
+visit_body unit f parameters items = items_in_order (map (visit_block_item unit f) items) parameters false
