@@ -1,6 +1,6 @@
 -- Adjustors (this project's own): `__adjustor A = F , n , m ;` has the type of its target, and adds the
 -- literal m to the parameter n, from 1, on the way to it.
-use Rattle.std.specs.Prelude.{ℕ, ℤ, pos, neg_ℤ, ◌+◌, ◌-◌, Bool, true, false, not, ◌&&◌, ◌||◌, ◌==◌, nat_lt, nat_le, List, [], ◌∷◌, ◌++◌, length, Option, Some, None, is_some, Result, Ok, Err, slice_get, if◌then◌else◌}
+use Rattle.std.specs.Prelude.{ℕ, ℤ, pos, neg_ℤ, ◌+◌, ◌-◌, Bool, false, not, ◌&&◌, ◌||◌, ◌==◌, nat_lt, nat_le, List, [], ◌∷◌, ◌++◌, length, Option, Some, None, is_some, Result, Ok, Err, slice_get, if◌then◌else◌}
 use Rattle.c_types.specs.declared.types.Span.{Span}
 use Rattle.c_types.specs.declared.types.Ty.{Ty}
 use Rattle.c_types.specs.declared.types.FunTy.{FunTy}
@@ -16,7 +16,7 @@ use Rattle.c_typing.specs.declared.scopes.Meaning.{Meaning}
 use Rattle.c_typing.specs.declared.scopes.Meaning.TheVariants.{Typedef, Function, Adjustor, Global}
 use Rattle.c_typing.specs.declared.scopes.UnitScope.{UnitScope}
 use Rattle.c_typing.specs.declared.tables.Progress.{Progress}
-use Rattle.c_typing.specs.Visits.{Visit, fault, or_fault, and_then, ◌>>=◌, give, judged, looked, changed}
+use Rattle.c_typing.specs.Visits.{Visit, fault, ◌>>=◌, looked}
 use Rattle.c_typing.specs.Scopes.{meaning_in, service_named}
 use Rattle.c_typing.specs.TypeForms.{integer_in}
 use Rattle.c_typing.specs.Heads.{gives_word}

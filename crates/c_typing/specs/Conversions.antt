@@ -1,8 +1,8 @@
 -- Conversions (C11, 6.3), all of which the typed trees write out.
-use Rattle.std.specs.Prelude.{ℕ, ◌+◌, ◌-◌, ◌*◌, ◌%◌, ◌^◌, Bool, true, false, ◌&&◌, ◌||◌, ◌==◌, nat_lt, List, [], ◌∷◌, Option, Some, None, option_map, is_some, Result, Ok, Err, if◌then◌else◌}
+use Rattle.std.specs.Prelude.{ℕ, ◌*◌, ◌%◌, ◌^◌, Bool, false, ◌&&◌, ◌||◌, ◌==◌, nat_lt, Option, Some, None, option_map, Result, Ok, Err, if◌then◌else◌}
 use Rattle.hx_words.specs.TwosComplement.{signed_of, bits_of}
 use Rattle.c_types.specs.declared.types.IntTy.{IntTy}
-use Rattle.c_types.specs.declared.types.IntTy.TheVariants.{I8, U8, I16, U16, I32, U32, I64, U64}
+use Rattle.c_types.specs.declared.types.IntTy.TheVariants.{I32, U32, I64, U64}
 use Rattle.c_types.specs.declared.types.Ty.{Ty}
 use Rattle.c_types.specs.declared.types.Ty.TheVariants.{Void, Int, Ptr, Fun, Struct, Array}
 use Rattle.c_types.specs.Layout.{bytes_of}
@@ -10,14 +10,13 @@ use Rattle.c_program.specs.declared.expressions.TypedExpr.{TypedExpr}
 use Rattle.c_program.specs.declared.expressions.TypedExpr.TheVariants as typed
 use Rattle.c_program.specs.declared.expressions.Place.{Place}
 use Rattle.c_program.specs.declared.expressions.Target.{Target}
-use Rattle.c_program.specs.declared.expressions.Service.{Service}
 use Rattle.c_typing.specs.declared.faults.Fault.{Fault}
 use Rattle.c_typing.specs.declared.faults.TypeKind.TheVariants.{NotValue, NotScalar}
 use Rattle.c_typing.specs.declared.operands.Value.{Value}
 use Rattle.c_typing.specs.declared.operands.Designated.{Designated}
 use Rattle.c_typing.specs.declared.operands.Designated.TheVariants as designated
 use Rattle.c_typing.specs.declared.operands.Operand.{Operand}
-use Rattle.c_typing.specs.Visits.{fault, or_fault}
+use Rattle.c_typing.specs.Visits.{fault}
 use Rattle.c_typing.specs.TypeForms.{is_signed, same_int, same_type, is_void, is_array, is_struct, is_pointer, integer_in}
 
 -- Integers

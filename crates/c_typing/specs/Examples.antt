@@ -1,14 +1,13 @@
 -- Small programs as trees written by hand, each with what stands in its text above it; spans count
 -- bytes from 0.
-use Rattle.std.specs.Prelude.{ℕ, ◌+◌, List, [], ◌∷◌, Option, Some, None, codes}
+use Rattle.std.specs.Prelude.{ℕ, ◌+◌, false, List, [], ◌∷◌, Some, None, codes}
 use Rattle.c_types.specs.declared.types.Span.{Span}
 use Rattle.c_types.specs.declared.types.IntTy.TheVariants.{I32}
+use Rattle.c_types.specs.declared.types.Ty.TheVariants.{Int}
 use Rattle.c_tree.specs.declared.operators.UnaryOp.TheVariants as prefix
 use Rattle.c_tree.specs.declared.expressions.Name.{Name}
-use Rattle.c_tree.specs.declared.expressions.Literal.{Literal}
 use Rattle.c_tree.specs.declared.expressions.Base.{Base}
 use Rattle.c_tree.specs.declared.expressions.Base.TheVariants as base
-use Rattle.c_tree.specs.declared.expressions.TypeName.{TypeName}
 use Rattle.c_tree.specs.declared.expressions.Expr.{Expr}
 use Rattle.c_tree.specs.declared.expressions.Expr.TheVariants as expr
 use Rattle.c_tree.specs.declared.statements.LocalDecl.{LocalDecl}
@@ -16,11 +15,14 @@ use Rattle.c_tree.specs.declared.statements.Local.TheVariants as local
 use Rattle.c_tree.specs.declared.statements.BlockItem.{BlockItem}
 use Rattle.c_tree.specs.declared.statements.BlockItem.TheVariants as block_item
 use Rattle.c_tree.specs.declared.statements.Stmt.TheVariants as stmt
-use Rattle.c_tree.specs.declared.declarations.Param.{Param}
 use Rattle.c_tree.specs.declared.declarations.FunctionHead.{FunctionHead}
-use Rattle.c_tree.specs.declared.declarations.Item.{Item}
 use Rattle.c_tree.specs.declared.declarations.Item.TheVariants as item
 use Rattle.c_tree.specs.declared.declarations.Unit.{Unit as Unit'}
+use Rattle.c_program.specs.declared.expressions.TypedExpr.TheVariants as typed
+use Rattle.c_program.specs.declared.statements.TypedItem.TheVariants as typed_item
+use Rattle.c_program.specs.declared.statements.TypedStmt.TheVariants as typed_stmt
+use Rattle.c_program.specs.declared.program.Program.{Program}
+use Rattle.c_typing.specs.Heads.{function_type}
 
 abbrev pub from_to : ℕ → ℕ → Span
 from_to a b = record { start = a; end = b }
@@ -48,6 +50,17 @@ empty_unit = record { items = [] }
 -- `int main(void){return 0;}`
 abbrev pub least_unit : Unit'
 least_unit = record { items = item.Define (plain_head 0 (name_at (codes "main") 4 8)) (from_to 14 15) (return_of 15 (number 0 22) ∷ []) ∷ [] }
+
+-- what it is: one function, of the one type, without locals
+abbrev pub least_program : Program
+least_program = record {
+  types = record { tys = []; structs = []; funs = function_type (Int I32) [] false ∷ [] };
+  globals = [];
+  functions = (record { name = codes "main"; ty = 0; body = Some (record { unit = 0; number = 0; locals = []; block = typed_item.Stmt (typed_stmt.Return (Some (typed.Number I32 0))) ∷ [] }) }) ∷ [];
+  adjustors = [];
+  other_nodes = 0;
+  extras = 0;
+}
 
 -- `int a;`
 abbrev pub plain_local : LocalDecl

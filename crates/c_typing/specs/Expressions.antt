@@ -1,6 +1,6 @@
 -- Expressions (C11, 6.5): what each form designates, from what its parts designate. The place of a
 -- fault is that of the form's operator or of a call's `(`, and else its first byte.
-use Rattle.std.specs.Prelude.{ℕ, ◌+◌, ◌-◌, Bool, true, false, not, ◌&&◌, ◌||◌, ◌==◌, nat_lt, max, List, [], ◌∷◌, map, length, drop, Option, Some, None, option_map, option_and_then, is_some, Result, Ok, Err, slice_get, if◌then◌else◌}
+use Rattle.std.specs.Prelude.{ℕ, ◌-◌, Bool, true, false, not, ◌==◌, nat_lt, max, List, [], ◌∷◌, map, length, drop, Option, Some, None, option_map, option_and_then, is_some, Result, Ok, Err, slice_get, if◌then◌else◌}
 use Rattle.std.specs.List.{list_all}
 use Rattle.c_types.specs.declared.types.IntTy.{IntTy}
 use Rattle.c_types.specs.declared.types.IntTy.TheVariants.{I32, U64}

@@ -2,15 +2,13 @@
 -- the first three sorts means the same in the whole program (6.2.2p2), and each unit declares what it
 -- uses; a typedef belongs to its unit. A fault lies at the declared name. A name that can't be declared
 -- comes first, then the faults of its type, then that it stands already with another type.
-use Rattle.std.specs.Prelude.{ℕ, ℤ, pos, neg_ℤ, ◌+◌, ◌-◌, Bool, true, false, not, ◌&&◌, ◌||◌, ◌==◌, nat_lt, nat_le, List, [], ◌∷◌, ◌++◌, map, length, Option, Some, None, is_some, Result, Ok, Err, slice_get, slice_set, position, bytes_eq, if◌then◌else◌}
+use Rattle.std.specs.Prelude.{ℕ, ◌+◌, Bool, false, ◌||◌, ◌==◌, List, [], ◌∷◌, ◌++◌, length, Option, Some, None, is_some, Result, Ok, Err, slice_get, slice_set, position, bytes_eq, if◌then◌else◌}
 use Rattle.c_types.specs.declared.types.Ty.{Ty}
 use Rattle.c_types.specs.declared.types.Ty.TheVariants.{Void}
 use Rattle.c_types.specs.declared.types.FunTy.{FunTy}
-use Rattle.c_types.specs.declared.types.Types.{Types}
 use Rattle.c_tree.specs.declared.expressions.Name.{Name}
 use Rattle.c_tree.specs.declared.expressions.Base.{Base}
 use Rattle.c_tree.specs.declared.declarations.Decl.{Decl}
-use Rattle.c_tree.specs.declared.declarations.Init.{Init}
 use Rattle.c_tree.specs.declared.declarations.GlobalDecl.{GlobalDecl}
 use Rattle.c_tree.specs.declared.declarations.FunctionHead.{FunctionHead}
 use Rattle.c_tree.specs.declared.statements.BlockItem.{BlockItem}
@@ -24,16 +22,14 @@ use Rattle.c_program.specs.declared.program.AdjustDef.{AdjustDef}
 use Rattle.c_typing.specs.declared.faults.Fault.{Fault}
 use Rattle.c_typing.specs.declared.faults.TypeKind.TheVariants as kind
 use Rattle.c_typing.specs.declared.scopes.Meaning.{Meaning}
-use Rattle.c_typing.specs.declared.scopes.Meaning.TheVariants.{Typedef, Function, Adjustor, Global}
+use Rattle.c_typing.specs.declared.scopes.Meaning.TheVariants.{Typedef, Function, Global}
 use Rattle.c_typing.specs.declared.scopes.UnitScope.{UnitScope}
-use Rattle.c_typing.specs.declared.scopes.LocalScope.{LocalScope}
-use Rattle.c_typing.specs.declared.tables.Tables.{Tables}
 use Rattle.c_typing.specs.declared.tables.Enclosing.{Enclosing}
 use Rattle.c_typing.specs.declared.tables.Progress.{Progress}
-use Rattle.c_typing.specs.Visits.{Visit, fault, and_then, ◌>>=◌, give, refuse, judged, looked, changed}
+use Rattle.c_typing.specs.Visits.{Visit, fault, ◌>>=◌, give, looked, changed}
 use Rattle.c_typing.specs.Scopes.{meaning_in, service_named, is_import_slot, is_typedef, no_locals, with_name}
 use Rattle.c_typing.specs.TypeForms.{same_type, declared_type}
-use Rattle.c_typing.specs.Statements.{Scoped, visit_body}
+use Rattle.c_typing.specs.Statements.{visit_body}
 use Rattle.c_typing.specs.Initials.{visit_optional_init}
 use Rattle.c_typing.specs.Heads.{param_types, visit_parameters, head_type, check_variadic}
 use Rattle.c_typing.specs.Structs.{with_scope}

@@ -1,8 +1,8 @@
 -- The heads of functions (C11, 6.7.6.3): parameters and the type of a function.
-use Rattle.std.specs.Prelude.{ℕ, ◌+◌, ◌-◌, Bool, true, false, not, ◌&&◌, ◌||◌, ◌==◌, List, [], ◌∷◌, ◌++◌, map, length, Option, Some, None, is_some, Result, Ok, Err, slice_get, if◌then◌else◌}
+use Rattle.std.specs.Prelude.{ℕ, ◌-◌, Bool, true, false, not, ◌&&◌, ◌||◌, ◌==◌, List, [], ◌∷◌, map, length, Option, Some, None, is_some, Ok, Err, slice_get, if◌then◌else◌}
 use Rattle.c_types.specs.declared.types.IntTy.TheVariants.{I32}
 use Rattle.c_types.specs.declared.types.Ty.{Ty}
-use Rattle.c_types.specs.declared.types.Ty.TheVariants.{Void, Int, Ptr, Fun, Struct, Array}
+use Rattle.c_types.specs.declared.types.Ty.TheVariants.{Int}
 use Rattle.c_types.specs.declared.types.FunTy.{FunTy}
 use Rattle.c_types.specs.declared.types.Types.{Types}
 use Rattle.c_types.specs.Layout.{size_of}
@@ -10,16 +10,14 @@ use Rattle.c_tree.specs.declared.expressions.Name.{Name}
 use Rattle.c_tree.specs.declared.expressions.Base.{Base}
 use Rattle.c_tree.specs.declared.expressions.Base.TheVariants as base
 use Rattle.c_tree.specs.declared.declarations.Param.{Param}
-use Rattle.c_tree.specs.declared.declarations.Params.{Params}
 use Rattle.c_tree.specs.declared.declarations.FunctionHead.{FunctionHead}
-use Rattle.c_typing.specs.declared.faults.Fault.{Fault}
 use Rattle.c_typing.specs.declared.faults.TypeKind.TheVariants as kind
 use Rattle.c_typing.specs.declared.scopes.UnitScope.{UnitScope}
 use Rattle.c_typing.specs.declared.scopes.LocalMeaning.TheVariants as meaning
 use Rattle.c_typing.specs.declared.scopes.LocalScope.{LocalScope}
 use Rattle.c_typing.specs.declared.tables.Tables.{Tables}
-use Rattle.c_typing.specs.Visits.{Visit, fault, ◌>>=◌, give, refuse, each_in_order}
-use Rattle.c_typing.specs.Scopes.{no_locals, with_local}
+use Rattle.c_typing.specs.Visits.{Visit, fault, ◌>>=◌, give, each_in_order}
+use Rattle.c_typing.specs.Scopes.{with_local}
 use Rattle.c_typing.specs.TypeForms.{same_type, is_struct, enter_function, result_type, object_type}
 use Rattle.c_typing.specs.Statements.{Scoped, enter_local, free_name}
 

@@ -1,10 +1,8 @@
 -- Initial values of globals (C11, 6.7.9): constants, each of the type of the part that it is for.
-use Rattle.std.specs.Prelude.{ℕ, ◌+◌, ◌-◌, ◌*◌, ◌%◌, ◌^◌, ℤ, Bool, true, false, ◌&&◌, ◌||◌, ◌==◌, nat_lt, nat_le, List, [], ◌∷◌, ◌++◌, map, length, Option, Some, None, option_map, is_some, Result, Ok, Err, unwrap_or, slice_get, if◌then◌else◌}
-use Rattle.std.specs.Option.{option_or}
+use Rattle.std.specs.Prelude.{ℕ, ◌-◌, ◌^◌, ℤ, Bool, false, ◌&&◌, ◌||◌, ◌==◌, nat_lt, nat_le, List, [], ◌∷◌, ◌++◌, map, length, Option, Some, None, is_some, Result, Ok, Err, if◌then◌else◌}
 use Rattle.hx_words.specs.TwosComplement.{bits_of}
 use Rattle.c_types.specs.declared.types.Span.{Span}
 use Rattle.c_types.specs.declared.types.IntTy.{IntTy}
-use Rattle.c_types.specs.declared.types.IntTy.TheVariants.{I8}
 use Rattle.c_types.specs.declared.types.Ty.{Ty}
 use Rattle.c_types.specs.declared.types.Ty.TheVariants.{Void, Int, Ptr, Fun, Struct, Array}
 use Rattle.c_types.specs.declared.types.FieldDef.{FieldDef}
@@ -27,9 +25,9 @@ use Rattle.c_typing.specs.declared.faults.TypeKind.TheVariants as kind
 use Rattle.c_typing.specs.declared.scopes.Meaning.{Meaning}
 use Rattle.c_typing.specs.declared.scopes.Meaning.TheVariants.{Typedef, Function, Adjustor, Global}
 use Rattle.c_typing.specs.declared.scopes.UnitScope.{UnitScope}
-use Rattle.c_typing.specs.Visits.{fault, or_fault, and_then}
+use Rattle.c_typing.specs.Visits.{fault, and_then}
 use Rattle.c_typing.specs.Scopes.{meaning_in, service_named}
-use Rattle.c_typing.specs.TypeForms.{is_pointer, same_type, ty_at, fields_at, field_of}
+use Rattle.c_typing.specs.TypeForms.{same_type, ty_at, fields_at, field_of}
 use Rattle.c_typing.specs.Conversions.{number_in}
 
 -- what an initial value gives to a part of a type
@@ -102,21 +100,22 @@ field_in at t name (Fun k) = Err (fault kind.NoField at)
 field_in at t name (Struct s) = field_part at (field_of t s name)
 field_in at t name (Array k l) = Err (fault kind.NoField at)
 
-abbrev pub element_in : ℕ → Types → ℕ → Ty → Result Part Fault
-element_in at t n Void = Err (fault kind.NotArray at)
-element_in at t n (Int i) = Err (fault kind.NotArray at)
-element_in at t n (Ptr k) = Err (fault kind.NotArray at)
-element_in at t n (Fun k) = Err (fault kind.NotArray at)
-element_in at t n (Struct s) = Err (fault kind.NotArray at)
-element_in at t n (Array k l) = if nat_lt n l then Ok (record { ty = ty_at t k; steps = path.Element n ∷ [] }) else Err (fault kind.BadInitial at)
+abbrev pub element_in : (at start : ℕ) → Types → ℕ → Ty → Result Part Fault
+element_in at start t n Void = Err (fault kind.NotArray at)
+element_in at start t n (Int i) = Err (fault kind.NotArray at)
+element_in at start t n (Ptr k) = Err (fault kind.NotArray at)
+element_in at start t n (Fun k) = Err (fault kind.NotArray at)
+element_in at start t n (Struct s) = Err (fault kind.NotArray at)
+element_in at start t n (Array k l) = if nat_lt n l then Ok (record { ty = ty_at t k; steps = path.Element n ∷ [] }) else Err (fault kind.BadInitial start)
 
-abbrev pub one_step : Types → Step → Ty → Result Part Fault
-one_step t (step.Field s n) ty = field_in s.start t n.text ty
-one_step t (step.Index s n) ty = element_in s.start t n.value ty
+-- `.` finds a field and `[` an element; an index past the array is no constant, at the value's start
+abbrev pub one_step : ℕ → Types → Step → Ty → Result Part Fault
+one_step start t (step.Field s n) ty = field_in s.start t n.text ty
+one_step start t (step.Index s n) ty = element_in s.start start t n.value ty
 
-unfoldable pub part_by_steps : Types → List Step → Ty → Result Part Fault
-part_by_steps t [] ty = Ok (record { ty = ty; steps = [] })
-part_by_steps t (x ∷ xs) ty = and_then (one_step t x ty) (λ p. and_then (part_by_steps t xs p.ty) (λ q. Ok (record { ty = q.ty; steps = p.steps ++ q.steps })))
+unfoldable pub part_by_steps : ℕ → Types → List Step → Ty → Result Part Fault
+part_by_steps start t [] ty = Ok (record { ty = ty; steps = [] })
+part_by_steps start t (x ∷ xs) ty = and_then (one_step start t x ty) (λ p. and_then (part_by_steps start t xs p.ty) (λ q. Ok (record { ty = q.ty; steps = p.steps ++ q.steps })))
 
 -- the first step of a path into what has no parts
 abbrev pub no_part : List Step → Result (Unit {0}) Fault
@@ -141,7 +140,7 @@ name_means at t a xs None ty = Err (fault kind.BadInitial at)
 name_means at t a xs (Some (Typedef k)) ty = and_then (no_part xs) (λ u. Err (fault kind.BadInitial at))
 name_means at t a xs (Some (Function f k)) ty = and_then (no_part xs) (λ u. function_at at k (target.Function f) ty)
 name_means at t a xs (Some (Adjustor f k)) ty = and_then (no_part xs) (λ u. function_at at k (target.Adjustor f) ty)
-name_means at t a xs (Some (Global g s)) ty = and_then (part_by_steps t xs s) (λ p. address_at at a g t p ty)
+name_means at t a xs (Some (Global g s)) ty = and_then (part_by_steps at t xs s) (λ p. address_at at a g t p ty)
 
 -- the address of a part of a global after `&`, or a function with `&` or without (6.6p9); the name of a
 -- service is no constant

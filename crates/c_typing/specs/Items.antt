@@ -1,5 +1,5 @@
 -- Items of a unit (C11, 6.9), and their nodes.
-use Rattle.std.specs.Prelude.{ℕ, ◌+◌, sum, sum_by, List, [], ◌∷◌, map, length, Option, Some, None, Result, Ok, Err}
+use Rattle.std.specs.Prelude.{ℕ, ◌+◌, sum, sum_by, List, [], ◌∷◌, length, Option, Some, None}
 use Rattle.c_tree.specs.declared.declarations.Init.{Init, fold-Init}
 use Rattle.c_tree.specs.declared.declarations.Init.TheOpen.{Init-F}
 use Rattle.c_tree.specs.declared.declarations.Field.{Field}
@@ -8,7 +8,6 @@ use Rattle.c_tree.specs.declared.declarations.GlobalDecl.{GlobalDecl}
 use Rattle.c_tree.specs.declared.declarations.Item.{Item}
 use Rattle.c_tree.specs.declared.declarations.Item.TheVariants as item
 use Rattle.c_tree.specs.declared.declarations.Unit.{Unit as Unit'}
-use Rattle.c_typing.specs.declared.faults.Fault.{Fault}
 use Rattle.c_typing.specs.declared.tables.Progress.{Progress}
 use Rattle.c_typing.specs.Visits.{Visit, ◌>>=◌, give}
 use Rattle.c_typing.specs.Scopes.{no_names}

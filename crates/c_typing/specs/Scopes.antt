@@ -2,7 +2,7 @@
 -- so are the fields of each struct (6.2.3). A name of a block hides the same name of a block around it
 -- and of the unit; each unit sees what it declares itself, from its declaration on. Services are this
 -- project's own: each unit may call them undeclared.
-use Rattle.std.specs.Prelude.{ℕ, ◌+◌, Bool, true, false, ◌||◌, List, [], ◌∷◌, ◌++◌, Option, Some, None, option_map, is_some, bytes_eq, codes, if◌then◌else◌}
+use Rattle.std.specs.Prelude.{ℕ, Bool, true, false, ◌||◌, List, [], ◌∷◌, ◌++◌, Option, Some, None, option_map, is_some, bytes_eq, codes, if◌then◌else◌}
 use Rattle.std.specs.List.{list_any}
 use Rattle.std.specs.Option.{option_or}
 use Rattle.c_program.specs.declared.expressions.Service.{Service}

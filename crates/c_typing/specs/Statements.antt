@@ -1,11 +1,9 @@
 -- Statements and the declarations of locals (C11, 6.8 and 6.7).
-use Rattle.std.specs.Prelude.{ℕ, ◌+◌, ◌-◌, Bool, true, false, ◌&&◌, ◌||◌, ◌==◌, List, [], ◌∷◌, ◌++◌, map, length, Option, Some, None, is_some, Result, Ok, Err, if◌then◌else◌}
-use Rattle.c_types.specs.declared.types.Span.{Span}
+use Rattle.std.specs.Prelude.{ℕ, ◌-◌, Bool, true, false, ◌==◌, List, [], ◌∷◌, ◌++◌, map, length, Option, Some, None, Result, Ok, Err, if◌then◌else◌}
 use Rattle.c_types.specs.declared.types.Ty.{Ty}
 use Rattle.c_tree.specs.declared.expressions.Name.{Name}
 use Rattle.c_tree.specs.declared.expressions.Base.{Base}
 use Rattle.c_tree.specs.declared.expressions.Expr.{Expr}
-use Rattle.c_tree.specs.declared.declarations.Decl.{Decl}
 use Rattle.c_tree.specs.declared.statements.LocalDecl.{LocalDecl}
 use Rattle.c_tree.specs.declared.statements.Local.{Local}
 use Rattle.c_tree.specs.declared.statements.Local.TheVariants as local
@@ -30,15 +28,12 @@ use Rattle.c_typing.specs.declared.scopes.LocalMeaning.{LocalMeaning}
 use Rattle.c_typing.specs.declared.scopes.LocalMeaning.TheVariants as meaning
 use Rattle.c_typing.specs.declared.scopes.LocalScope.{LocalScope}
 use Rattle.c_typing.specs.declared.operands.Value.{Value}
-use Rattle.c_typing.specs.declared.operands.Designated.{Designated}
-use Rattle.c_typing.specs.declared.operands.Designated.TheVariants as designated
-use Rattle.c_typing.specs.declared.operands.Operand.{Operand}
 use Rattle.c_typing.specs.declared.tables.Tables.{Tables}
 use Rattle.c_typing.specs.declared.tables.Enclosing.{Enclosing}
-use Rattle.c_typing.specs.Visits.{Visit, fault, or_fault, and_then, ◌>>=◌, give, refuse, judged, looked, changed, optionally}
+use Rattle.c_typing.specs.Visits.{Visit, fault, or_fault, and_then, ◌>>=◌, give, refuse, judged, optionally}
 use Rattle.c_typing.specs.Scopes.{named, local_meaning, is_taken, with_local, inside}
 use Rattle.c_typing.specs.TypeForms.{is_void, declared_type}
-use Rattle.c_typing.specs.Conversions.{as_value, as_effect, as_scalar, converted_to}
+use Rattle.c_typing.specs.Conversions.{as_effect, as_scalar, converted_to}
 use Rattle.c_typing.specs.Expressions.{visit_expr, value, list_of}
 
 -- a visited part that names stand behind

@@ -1,12 +1,10 @@
 -- Definitions of structs (C11, 6.7.2.1). A struct is named by its tag over the whole program, and each
 -- unit that uses it defines it, alike (6.2.7p1).
-use Rattle.std.specs.Prelude.{ℕ, Bool, true, false, ◌&&◌, List, [], ◌∷◌, ◌++◌, map, length, Option, Some, None, is_some, Result, Ok, Err, slice_get, slice_set, position, bytes_eq, if◌then◌else◌}
+use Rattle.std.specs.Prelude.{ℕ, Bool, true, false, ◌&&◌, List, [], ◌∷◌, ◌++◌, map, Option, Some, None, Result, Ok, Err, slice_get, slice_set, position, bytes_eq, if◌then◌else◌}
 use Rattle.std.specs.List.{list_any}
-use Rattle.c_types.specs.declared.types.Ty.{Ty}
 use Rattle.c_types.specs.declared.types.Ty.TheVariants.{Struct}
 use Rattle.c_types.specs.declared.types.FieldDef.{FieldDef}
 use Rattle.c_types.specs.declared.types.StructDef.{StructDef}
-use Rattle.c_types.specs.declared.types.Types.{Types}
 use Rattle.c_types.specs.Layout.{extent_of}
 use Rattle.c_tree.specs.declared.expressions.Name.{Name}
 use Rattle.c_tree.specs.declared.expressions.Base.{Base}
@@ -18,7 +16,7 @@ use Rattle.c_typing.specs.declared.scopes.UnitTag.{UnitTag}
 use Rattle.c_typing.specs.declared.scopes.UnitScope.{UnitScope}
 use Rattle.c_typing.specs.declared.tables.Tables.{Tables}
 use Rattle.c_typing.specs.declared.tables.Progress.{Progress}
-use Rattle.c_typing.specs.Visits.{Visit, fault, and_then, ◌>>=◌, give, refuse, judged, looked, changed}
+use Rattle.c_typing.specs.Visits.{Visit, fault, ◌>>=◌, give, refuse}
 use Rattle.c_typing.specs.Scopes.{tag_in}
 use Rattle.c_typing.specs.TypeForms.{same_type, declared_type, is_within, most_bytes, place_in, grown}
 

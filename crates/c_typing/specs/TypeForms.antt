@@ -2,7 +2,7 @@
 -- types of pointers' targets and arrays' elements stand in a table, and so do those of functions. A
 -- type is entered at the end of its table where it isn't there yet, so that types are equal exactly
 -- where they are written the same, and the tables are those of the order of visit (this project's own).
-use Rattle.std.specs.Prelude.{ℕ, ◌+◌, ◌*◌, Bool, true, false, not, ◌&&◌, ◌||◌, ◌==◌, nat_le, nat_lt, List, [], ◌∷◌, ◌++◌, length, map, Option, Some, None, option_map, Result, Ok, Err, slice_get, unwrap_or, position, bytes_eq, if◌then◌else◌}
+use Rattle.std.specs.Prelude.{ℕ, ◌+◌, ◌*◌, Bool, true, false, not, ◌&&◌, ◌==◌, nat_le, nat_lt, List, [], ◌∷◌, ◌++◌, length, Option, Some, None, Ok, slice_get, unwrap_or, position, bytes_eq, if◌then◌else◌}
 use Rattle.c_types.specs.declared.types.Span.{Span}
 use Rattle.c_types.specs.declared.types.IntTy.{IntTy}
 use Rattle.c_types.specs.declared.types.IntTy.TheVariants.{I8, U8, I16, U16, I32, U32, I64, U64}
@@ -13,7 +13,7 @@ use Rattle.c_types.specs.declared.types.FieldDef.{FieldDef}
 use Rattle.c_types.specs.declared.types.StructDef.{StructDef}
 use Rattle.c_types.specs.declared.types.Types.{Types}
 use Rattle.c_types.specs.declared.measure.Extent.{Extent}
-use Rattle.c_types.specs.Layout.{bytes_of, size_of, extent_of}
+use Rattle.c_types.specs.Layout.{bytes_of, size_of}
 use Rattle.c_tree.specs.declared.expressions.Base.{Base}
 use Rattle.c_tree.specs.declared.expressions.Base.TheVariants as base
 use Rattle.c_tree.specs.declared.expressions.Literal.{Literal}

@@ -1,12 +1,10 @@
 -- Whole programs (C11, 5.1.1.1, 6.9): what a checker answers for units, in order.
-use Rattle.std.specs.Prelude.{ℕ, ◌+◌, Bool, true, false, not, ◌&&◌, ◌==◌, sum_by, List, [], ◌∷◌, length, Option, Some, None, is_some, Result, Ok, Err, slice_get, bytes_eq, codes, if◌then◌else◌}
+use Rattle.std.specs.Prelude.{ℕ, ◌+◌, Bool, false, ◌&&◌, sum_by, List, [], ◌∷◌, Option, Some, None, is_some, Result, Ok, Err, slice_get, bytes_eq, codes, if◌then◌else◌}
 use Rattle.std.specs.List.{list_any}
 use Rattle.std.specs.Option.{option_or}
 use Rattle.c_types.specs.declared.types.IntTy.TheVariants.{I32}
 use Rattle.c_types.specs.declared.types.Ty.TheVariants.{Int}
 use Rattle.c_types.specs.declared.types.FunTy.{FunTy}
-use Rattle.c_tree.specs.declared.declarations.Decl.{Decl}
-use Rattle.c_tree.specs.declared.declarations.FunctionHead.{FunctionHead}
 use Rattle.c_tree.specs.declared.declarations.Item.{Item}
 use Rattle.c_tree.specs.declared.declarations.Item.TheVariants as item
 use Rattle.c_tree.specs.declared.declarations.Unit.{Unit as Unit'}

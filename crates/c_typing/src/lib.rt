@@ -9,11 +9,13 @@
 #![tactic(auto)]
 
 mod faults;
+mod laws;
 mod operands;
 mod scopes;
 mod tables;
 
 pub use faults::{Fault, TypeKind, UnitFault};
+pub use laws::example_answers;
 pub use operands::{Designated, Operand, Value};
 pub use scopes::{LocalMeaning, LocalName, LocalScope, Meaning, UnitName, UnitScope, UnitTag};
 pub use tables::{Enclosing, Progress, Tables};
