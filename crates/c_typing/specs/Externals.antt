@@ -27,7 +27,7 @@ use Rattle.c_typing.specs.declared.scopes.UnitScope.{UnitScope}
 use Rattle.c_typing.specs.declared.tables.Enclosing.{Enclosing}
 use Rattle.c_typing.specs.declared.tables.Progress.{Progress}
 use Rattle.c_typing.specs.Visits.{Visit, fault, ◌>>=◌, give, looked, changed}
-use Rattle.c_typing.specs.Scopes.{meaning_in, service_named, is_import_slot, is_typedef, no_locals, with_name}
+use Rattle.c_typing.specs.Scopes.{meaning_in, service_named, is_import_slot, is_typedef, with_name}
 use Rattle.c_typing.specs.TypeForms.{same_type, declared_type}
 use Rattle.c_typing.specs.Statements.{visit_body}
 use Rattle.c_typing.specs.Initials.{visit_optional_init}
@@ -195,7 +195,7 @@ define_function unit f block = changed (with_definition unit f block)
 unfoldable pub visit_definition : ℕ → FunctionHead → List BlockItem → Visit Progress (Unit {0})
 visit_definition unit h items =
     begin_body >>= (λ u.
-    with_scope (λ s. visit_parameters s no_locals h.params.list) >>= (λ ps.
+    with_scope (λ s. visit_parameters s h.params.list) >>= (λ ps.
     declare_function no_new_function h ps.part >>= (λ f.
     looked (λ p. Ok (enclosing_in (slice_get p.tables.types.funs f.1))) >>= (λ e.
     with_scope (λ s. visit_body s e ps.locals items) >>= (λ block.

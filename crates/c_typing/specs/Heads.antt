@@ -17,9 +17,9 @@ use Rattle.c_typing.specs.declared.scopes.LocalMeaning.TheVariants as meaning
 use Rattle.c_typing.specs.declared.scopes.LocalScope.{LocalScope}
 use Rattle.c_typing.specs.declared.tables.Tables.{Tables}
 use Rattle.c_typing.specs.Visits.{Visit, fault, ◌>>=◌, give, each_in_order}
-use Rattle.c_typing.specs.Scopes.{with_local}
+use Rattle.c_typing.specs.Scopes.{no_locals, with_local}
 use Rattle.c_typing.specs.TypeForms.{same_type, is_struct, enter_function, result_type, object_type}
-use Rattle.c_typing.specs.Statements.{Scoped, enter_local, free_name}
+use Rattle.c_typing.specs.Statements.{Scoped, ScopeVisit, in_scopes, enter_local, free_name}
 
 -- the first byte of a base
 abbrev pub base_at : Base → ℕ
@@ -52,19 +52,15 @@ with_param None n ty locals = locals
 with_param (Some name) n ty locals = with_local name.text (meaning.Variable n ty) locals
 
 -- a parameter of a definition is a local of the body's block (6.2.1p4)
-unfoldable pub visit_parameter : UnitScope → LocalScope → Param → Visit Tables (Scoped Ty)
-visit_parameter unit locals p =
+unfoldable pub visit_parameter : UnitScope → Param → ScopeVisit Ty
+visit_parameter unit p locals =
     free_param unit locals p.name >>= (λ u.
     param_type unit p >>= (λ ty.
     enter_local ty >>= (λ n.
-    give (record { part = ty; locals = with_param p.name n ty locals }))))
+    give (record { part = ty ∷ []; locals = with_param p.name n ty locals }))))
 
-unfoldable pub visit_parameters : UnitScope → LocalScope → List Param → Visit Tables (Scoped (List Ty))
-visit_parameters unit locals [] = give (record { part = []; locals = locals })
-visit_parameters unit locals (p ∷ ps) =
-    visit_parameter unit locals p >>= (λ first.
-    visit_parameters unit first.locals ps >>= (λ rest.
-    give (record { part = first.part ∷ rest.part; locals = rest.locals })))
+abbrev pub visit_parameters : UnitScope → List Param → Visit Tables (Scoped (List Ty))
+visit_parameters unit ps = in_scopes (map (visit_parameter unit) ps) no_locals
 
 abbrev pub function_type : Ty → List Ty → Bool → FunTy
 function_type result params variadic = record { result = result; params = params; variadic = variadic }

@@ -36,10 +36,22 @@ use Rattle.c_typing.specs.TypeForms.{is_void, declared_type}
 use Rattle.c_typing.specs.Conversions.{as_effect, as_scalar, converted_to}
 use Rattle.c_typing.specs.Expressions.{visit_expr, value, list_of}
 
--- a visited part that names stand behind
+-- a visited part, and the scope behind it
 pub record Scoped (A : Type 0) : Type 0 where
   pub part : A
   pub locals : LocalScope
+
+-- a visit of a part of a block, from the scope before it
+abbrev pub ScopeVisit : Type 0 → Type 0
+ScopeVisit A = LocalScope → Visit Tables (Scoped (List A))
+
+-- parts in order, each in the scope behind the one before
+unfoldable pub in_scopes : {A : Type 0} → List (ScopeVisit A) → ScopeVisit A
+in_scopes [] locals = give (record { part = []; locals = locals })
+in_scopes (v ∷ vs) locals =
+    v locals >>= (λ first.
+    in_scopes vs first.locals >>= (λ rest.
+    give (record { part = first.part ++ rest.part; locals = rest.locals })))
 
 -- Locals
 
@@ -62,36 +74,32 @@ visit_effect unit locals e = visit_expr unit locals e >>= (λ o. judged (as_effe
 unfoldable pub visit_initial : UnitScope → LocalScope → ℕ → Ty → Expr → Visit Tables TypedExpr
 visit_initial unit locals at ty e = visit_value unit locals e >>= (λ v. judged (or_fault kind.Mismatch at (converted_to ty v)))
 
-unfoldable pub visit_declarator : UnitScope → LocalScope → Base → LocalDecl → Visit Tables (Scoped Declared)
-visit_declarator unit locals b d =
+unfoldable pub visit_declarator : UnitScope → Base → LocalDecl → ScopeVisit Declared
+visit_declarator unit b d locals =
     free_name unit locals d.decl.name >>= (λ u.
     declared_type unit b d.decl >>= (λ ty.
     enter_local ty >>= (λ n.
     let after : LocalScope = with_local d.decl.name.text (meaning.Variable n ty) locals in
     optionally (visit_initial unit after d.decl.name.span.start ty) d.init >>= (λ init.
-    give (record { part = record { local = n; ty = ty; init = init }; locals = after })))))
+    give (record { part = (record { local = n; ty = ty; init = init }) ∷ []; locals = after })))))
 
-unfoldable pub visit_declarators : UnitScope → LocalScope → Base → List LocalDecl → Visit Tables (Scoped (List Declared))
-visit_declarators unit locals b [] = give (record { part = []; locals = locals })
-visit_declarators unit locals b (d ∷ ds) =
-    visit_declarator unit locals b d >>= (λ first.
-    visit_declarators unit first.locals b ds >>= (λ rest.
-    give (record { part = first.part ∷ rest.part; locals = rest.locals })))
+abbrev pub visit_declarators : UnitScope → Base → List LocalDecl → ScopeVisit Declared
+visit_declarators unit b ds = in_scopes (map (visit_declarator unit b) ds)
 
 -- a function that more arguments can follow has at most one `va_list`, and no other function has one
 -- (this project's own)
 unfoldable pub enter_list : Enclosing → ℕ → Visit Tables (Unit {0})
 enter_list f at t = if f.variadic then (if t.has_list then Err (fault kind.Variadic at) else Ok (tt, record t { has_list = true })) else Err (fault kind.Variadic at)
 
-unfoldable pub visit_list : UnitScope → Enclosing → LocalScope → Name → Visit Tables (Scoped (List TypedItem))
-visit_list unit f locals n =
+unfoldable pub visit_list : UnitScope → Enclosing → Name → ScopeVisit TypedItem
+visit_list unit f n locals =
     free_name unit locals n >>= (λ u.
     enter_list f n.span.start >>= (λ w.
     give (record { part = item.VaList ∷ []; locals = with_local n.text meaning.VaList locals })))
 
-abbrev pub visit_local : UnitScope → Enclosing → LocalScope → Local → Visit Tables (Scoped (List TypedItem))
-visit_local unit f locals (local.Declared b ds) = visit_declarators unit locals b ds >>= (λ x. give (record { part = map item.Declare x.part; locals = x.locals }))
-visit_local unit f locals (local.VaList s n) = visit_list unit f locals n
+abbrev pub visit_local : UnitScope → Enclosing → Local → ScopeVisit TypedItem
+visit_local unit f (local.Declared b ds) locals = visit_declarators unit b ds locals >>= (λ x. give (record { part = map item.Declare x.part; locals = x.locals }))
+visit_local unit f (local.VaList s n) locals = visit_list unit f n locals
 
 -- Statements
 
@@ -119,28 +127,21 @@ started unit f locals at l n =
 unfoldable pub ended : UnitScope → LocalScope → ℕ → Name → Result TypedStmt Fault
 ended unit locals at l = and_then (list_of at (named unit locals l.text)) (λ u. Ok typed.VaEnd)
 
--- what a block's item and a statement give, from what stands before them and whether a loop is around
+-- what a block's item and a statement give, from whether a loop is around and the scope before them
 abbrev pub ItemVisit : Type 0
-ItemVisit = LocalScope → Bool → Visit Tables (Scoped (List TypedItem))
+ItemVisit = Bool → ScopeVisit TypedItem
 
 abbrev pub StmtVisit : Type 0
-StmtVisit = LocalScope → Bool → Visit Tables TypedStmt
-
-unfoldable pub items_in_order : List ItemVisit → ItemVisit
-items_in_order [] locals loop = give (record { part = []; locals = locals })
-items_in_order (v ∷ vs) locals loop =
-    v locals loop >>= (λ first.
-    items_in_order vs first.locals loop >>= (λ rest.
-    give (record { part = first.part ++ rest.part; locals = rest.locals })))
+StmtVisit = Bool → LocalScope → Visit Tables TypedStmt
 
 abbrev pub visit_start : UnitScope → LocalScope → ForStart → Visit Tables (Scoped ForBegin)
-visit_start unit locals (start.Local b ds) = visit_declarators unit locals b ds >>= (λ x. give (record { part = begin.Locals x.part; locals = x.locals }))
+visit_start unit locals (start.Local b ds) = visit_declarators unit b ds locals >>= (λ x. give (record { part = begin.Locals x.part; locals = x.locals }))
 visit_start unit locals (start.Effect e) = visit_effect unit locals e >>= (λ x. give (record { part = begin.Effect x; locals = locals }))
 visit_start unit locals start.Nothing = give (record { part = begin.Nothing; locals = locals })
 
 abbrev pub visit_block_item_at : UnitScope → Enclosing → BlockItem-F ItemVisit StmtVisit → ItemVisit
-visit_block_item_at unit f (BlockItem-F.Local d) locals loop = visit_local unit f locals d
-visit_block_item_at unit f (BlockItem-F.Stmt x) locals loop = x locals loop >>= (λ y. give (record { part = item.Stmt y ∷ []; locals = locals }))
+visit_block_item_at unit f (BlockItem-F.Local d) loop locals = visit_local unit f d locals
+visit_block_item_at unit f (BlockItem-F.Stmt x) loop locals = x loop locals >>= (λ y. give (record { part = item.Stmt y ∷ []; locals = locals }))
 
 -- `break` and `continue` stand in a loop (6.8.6.2, 6.8.6.3)
 abbrev pub jump : ℕ → TypedStmt → Bool → Visit Tables TypedStmt
@@ -165,24 +166,24 @@ visit_for unit at a c b x locals =
     visit_start unit (inside locals) a >>= (λ first.
     optionally (visit_value unit first.locals) c >>= (λ test.
     optionally (visit_effect unit first.locals) b >>= (λ step.
-    x first.locals true >>= (λ body.
+    x true first.locals >>= (λ body.
     optionally (condition_of at) test >>= (λ e.
     give (typed.For first.part e step body))))))
 
 abbrev pub visit_stmt_at : UnitScope → Enclosing → Stmt-F ItemVisit StmtVisit → StmtVisit
-visit_stmt_at unit f (Stmt-F.Block s xs) locals loop = items_in_order xs (inside locals) loop >>= (λ x. give (typed.Block x.part))
-visit_stmt_at unit f (Stmt-F.Empty s) locals loop = give typed.Empty
-visit_stmt_at unit f (Stmt-F.Effect e) locals loop = visit_effect unit locals e >>= (λ x. give (typed.Effect x))
-visit_stmt_at unit f (Stmt-F.Break s) locals loop = jump s.start typed.Break loop
-visit_stmt_at unit f (Stmt-F.Continue s) locals loop = jump s.start typed.Continue loop
-visit_stmt_at unit f (Stmt-F.If s c x) locals loop = visit_if s.start (visit_value unit locals c) (x locals loop)
-visit_stmt_at unit f (Stmt-F.IfElse s c x y) locals loop = visit_if_else s.start (visit_value unit locals c) (x locals loop) (y locals loop)
-visit_stmt_at unit f (Stmt-F.While s c x) locals loop = visit_while s.start (visit_value unit locals c) (x locals true)
-visit_stmt_at unit f (Stmt-F.Do s x c) locals loop = visit_do s.start (x locals true) (visit_value unit locals c)
-visit_stmt_at unit f (Stmt-F.For s a c b x) locals loop = visit_for unit s.start a c b x locals
-visit_stmt_at unit f (Stmt-F.Return s e) locals loop = optionally (visit_value unit locals) e >>= (λ v. judged (returned f s.start v) >>= (λ x. give (typed.Return x)))
-visit_stmt_at unit f (Stmt-F.VaStart s l n) locals loop = judged (started unit f locals s.start l n)
-visit_stmt_at unit f (Stmt-F.VaEnd s l) locals loop = judged (ended unit locals s.start l)
+visit_stmt_at unit f (Stmt-F.Block s xs) loop locals = in_scopes (map (λ (v : ItemVisit). v loop) xs) (inside locals) >>= (λ x. give (typed.Block x.part))
+visit_stmt_at unit f (Stmt-F.Empty s) loop locals = give typed.Empty
+visit_stmt_at unit f (Stmt-F.Effect e) loop locals = visit_effect unit locals e >>= (λ x. give (typed.Effect x))
+visit_stmt_at unit f (Stmt-F.Break s) loop locals = jump s.start typed.Break loop
+visit_stmt_at unit f (Stmt-F.Continue s) loop locals = jump s.start typed.Continue loop
+visit_stmt_at unit f (Stmt-F.If s c x) loop locals = visit_if s.start (visit_value unit locals c) (x loop locals)
+visit_stmt_at unit f (Stmt-F.IfElse s c x y) loop locals = visit_if_else s.start (visit_value unit locals c) (x loop locals) (y loop locals)
+visit_stmt_at unit f (Stmt-F.While s c x) loop locals = visit_while s.start (visit_value unit locals c) (x true locals)
+visit_stmt_at unit f (Stmt-F.Do s x c) loop locals = visit_do s.start (x true locals) (visit_value unit locals c)
+visit_stmt_at unit f (Stmt-F.For s a c b x) loop locals = visit_for unit s.start a c b x locals
+visit_stmt_at unit f (Stmt-F.Return s e) loop locals = optionally (visit_value unit locals) e >>= (λ v. judged (returned f s.start v) >>= (λ x. give (typed.Return x)))
+visit_stmt_at unit f (Stmt-F.VaStart s l n) loop locals = judged (started unit f locals s.start l n)
+visit_stmt_at unit f (Stmt-F.VaEnd s l) loop locals = judged (ended unit locals s.start l)
 
 unfoldable pub visit_block_item : UnitScope → Enclosing → BlockItem → ItemVisit
 visit_block_item unit f = fold-BlockItem ItemVisit StmtVisit (visit_block_item_at unit f) (visit_stmt_at unit f)
@@ -192,4 +193,4 @@ visit_stmt unit f = fold-Stmt ItemVisit StmtVisit (visit_block_item_at unit f) (
 
 -- the block of a function, which is the scope of its parameters too (6.2.1p4)
 abbrev pub visit_body : UnitScope → Enclosing → LocalScope → List BlockItem → Visit Tables (Scoped (List TypedItem))
-visit_body unit f parameters items = items_in_order (map (visit_block_item unit f) items) parameters false
+visit_body unit f parameters items = in_scopes (map (λ x. visit_block_item unit f x false) items) parameters

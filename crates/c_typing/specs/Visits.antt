@@ -1,9 +1,11 @@
 -- Visits (this project's own form): a part of a program is visited from a state, into which it enters
 -- what later parts rest on, and gives something and the state after it, or the first fault in it. One
 -- part is visited after the other, so the first fault in the order of visit is the one that is given.
-use Rattle.std.specs.Prelude.{ℕ, List, [], ◌∷◌, Option, Some, None, Result, Ok, Err}
+use Rattle.std.specs.Prelude.{◌≡◌, ℕ, List, [], ◌∷◌, Option, Some, None, Result, Ok, Err}
 use Rattle.c_typing.specs.declared.faults.Fault.{Fault}
 use Rattle.c_typing.specs.declared.faults.TypeKind.{TypeKind}
+use Rattle.c_typing.specs.declared.faults.Refusal.{Refusal}
+use Rattle.c_typing.specs.declared.faults.Refusal.TheVariants as refusal
 
 abbrev pub Visit : Type 0 → Type 0 → Type 0
 Visit S A = S → Result (A × S) Fault
@@ -26,9 +28,12 @@ onward (Ok x) next = next x.0 x.1
 onward (Err e) next = Err e
 
 -- the second part, from what the first gave and left
+unfoldable pub followed : {S A B : Type 0} → Visit S A → (A → Visit S B) → Visit S B
+followed v next s = onward (v s) next
+
 infixr 20 ◌>>=◌
-unfoldable pub ◌>>=◌ : {S A B : Type 0} → Visit S A → (A → Visit S B) → Visit S B
-(v >>= next) s = onward (v s) next
+abbrev pub ◌>>=◌ : {S A B : Type 0} → Visit S A → (A → Visit S B) → Visit S B
+v >>= next = followed v next
 
 -- something that enters nothing
 unfoldable pub give : {S A : Type 0} → A → Visit S A
@@ -62,3 +67,17 @@ each_in_order (v ∷ vs) = v >>= (λ x. each_in_order vs >>= (λ xs. give (x ∷
 abbrev pub optionally : {S A B : Type 0} → (A → Visit S B) → Option A → Visit S (Option B)
 optionally visit None = give None
 optionally visit (Some x) = visit x >>= (λ y. give (Some y))
+
+-- What a call of a checker says of a rule: it gives what the rule gives, or refuses with the rule's
+-- fault. Want of memory says nothing.
+
+abbrev pub Tells : {A : Type 0} → Result A Fault → Result A Refusal → Type 0
+Tells rule (Ok x) = rule ≡ Ok x
+Tells rule (Err (refusal.Fault f)) = rule ≡ Err f
+Tells rule (Err refusal.NoMemory) = Unit {0}
+
+-- and of a visit, with the state that the call leaves
+abbrev pub Leaves : {S A : Type 0} → Result (A × S) Fault → Result A Refusal → S → Type 0
+Leaves rule (Ok x) s = rule ≡ Ok (x, s)
+Leaves rule (Err (refusal.Fault f)) s = rule ≡ Err f
+Leaves rule (Err refusal.NoMemory) s = Unit {0}

@@ -1,3 +1,7 @@
+ghost use Rattle.std.specs.Prelude.{◌≡◌};
+
+use std::alloc::AllocError;
+
 /// What is wrong with a part of a program. At one part the first of these counts.
 #[derive(Clone, Copy, Debug, PartialEq, Eq)]
 pub enum TypeKind {
@@ -52,4 +56,21 @@ pub struct UnitFault {
     pub unit: u32,
     pub kind: TypeKind,
     pub at: u32,
+}
+
+/// Why a part isn't typed: its first fault, or want of memory.
+#[derive(Clone, Copy, Debug, PartialEq, Eq)]
+pub enum Refusal {
+    Fault(Fault),
+    NoMemory,
+}
+
+impl From<AllocError> for Refusal {
+    ghost use Rattle.c_typing.specs.declared.faults.Refusal.TheVariants.{NoMemory};
+
+    ghost from_gives = { λ _ e. e ≡ NoMemory };
+
+    fn from(_: AllocError) -> Refusal {
+        Refusal::NoMemory
+    }
 }

@@ -14,7 +14,7 @@ mod operands;
 mod scopes;
 mod tables;
 
-pub use faults::{Fault, TypeKind, UnitFault};
+pub use faults::{Fault, Refusal, TypeKind, UnitFault};
 pub use laws::example_answers;
 pub use operands::{Designated, Operand, Value};
 pub use scopes::{LocalMeaning, LocalName, LocalScope, Meaning, UnitName, UnitScope, UnitTag};
