@@ -1,12 +1,10 @@
 -- What each form of expression designates, from its parts.
-use Rattle.std.proofs.Common.{◌≡◌, Bool, true, false, List, map, sym, ap, ◌∙◌}
+use Rattle.std.proofs.Common.{◌≡◌, true, false, List, map, sym, ap, ◌∙◌}
 use Rattle.std.specs.Prelude.{ℤ}
 use Rattle.c_types.specs.declared.types.Span.{Span}
 use Rattle.c_types.specs.declared.types.IntTy.{IntTy}
 use Rattle.c_types.specs.declared.types.IntTy.TheVariants.{I32}
-use Rattle.c_types.specs.declared.types.Ty.{Ty}
 use Rattle.c_types.specs.declared.types.Ty.TheVariants.{Int}
-use Rattle.c_types.specs.declared.types.Types.{Types}
 use Rattle.c_tree.specs.declared.expressions.Name.{Name}
 use Rattle.c_tree.specs.declared.expressions.Literal.{Literal}
 use Rattle.c_tree.specs.declared.expressions.TypeName.{TypeName}

@@ -2,12 +2,10 @@
 use Rattle.std.proofs.Common.{◌≡◌, ℕ, List, map, Option, sym, ap, ◌∙◌}
 use Rattle.std.specs.Prelude.{ℤ}
 use Rattle.c_types.specs.declared.types.Span.{Span}
-use Rattle.c_types.specs.declared.types.IntTy.{IntTy}
 use Rattle.c_types.specs.declared.types.Ty.{Ty}
 use Rattle.c_types.specs.declared.types.Types.{Types}
 use Rattle.c_tree.specs.declared.expressions.Name.{Name}
 use Rattle.c_tree.specs.declared.expressions.Literal.{Literal}
-use Rattle.c_tree.specs.declared.expressions.TypeName.{TypeName}
 use Rattle.c_tree.specs.declared.declarations.Step.{Step}
 use Rattle.c_tree.specs.declared.declarations.Init.{Init, fold-Init, fold-roll-Init}
 use Rattle.c_tree.specs.declared.declarations.Init.TheOpen.{Init-F}

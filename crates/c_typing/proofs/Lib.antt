@@ -2,3 +2,4 @@ pub mod ExprLaws
 pub mod StmtLaws
 pub mod InitLaws
 pub mod Rows
+pub mod LoopLaws

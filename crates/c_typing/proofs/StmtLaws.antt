@@ -1,12 +1,7 @@
 -- What each statement gives, from its parts.
-use Rattle.std.proofs.Common.{◌≡◌, Bool, true, false, [], ◌∷◌, List, map, Option, sym, ap, ◌∙◌}
+use Rattle.std.proofs.Common.{◌≡◌, Bool, true, [], ◌∷◌, List, map, Option, sym, ap, ◌∙◌}
 use Rattle.c_types.specs.declared.types.Span.{Span}
-use Rattle.c_types.specs.declared.types.IntTy.{IntTy}
-use Rattle.c_types.specs.declared.types.Ty.{Ty}
-use Rattle.c_types.specs.declared.types.Types.{Types}
 use Rattle.c_tree.specs.declared.expressions.Name.{Name}
-use Rattle.c_tree.specs.declared.expressions.Literal.{Literal}
-use Rattle.c_tree.specs.declared.expressions.TypeName.{TypeName}
 use Rattle.c_tree.specs.declared.expressions.Expr.{Expr}
 use Rattle.c_tree.specs.declared.statements.Local.{Local}
 use Rattle.c_tree.specs.declared.statements.ForStart.{ForStart}
@@ -26,9 +21,9 @@ use Rattle.c_typing.specs.declared.scopes.UnitScope.{UnitScope}
 use Rattle.c_typing.specs.declared.scopes.LocalScope.{LocalScope}
 use Rattle.c_typing.specs.declared.tables.Tables.{Tables}
 use Rattle.c_typing.specs.declared.tables.Enclosing.{Enclosing}
-use Rattle.c_typing.specs.Visits.{Visit, ◌>>=◌, give, judged, optionally}
+use Rattle.c_typing.specs.Visits.{◌>>=◌, give, judged, optionally}
 use Rattle.c_typing.specs.Scopes.{inside}
-use Rattle.c_typing.specs.Statements.{Scoped, ItemVisit, StmtVisit, visit_block_item_at, visit_stmt_at, visit_block_item, visit_stmt, visit_local, visit_value, visit_effect, ScopeVisit, in_scopes, jump, visit_if, visit_if_else, visit_while, visit_do, visit_for, returned, started, ended}
+use Rattle.c_typing.specs.Statements.{ItemVisit, StmtVisit, visit_block_item_at, visit_stmt_at, visit_block_item, visit_stmt, visit_local, visit_value, visit_effect, ScopeVisit, in_scopes, jump, visit_if, visit_if_else, visit_while, visit_do, visit_for, returned, started, ended}
 
 pub visit_block_item-Local : (unit : UnitScope) (f : Enclosing) (d : Local) (loop : Bool) (locals : LocalScope) (t : Tables) → visit_block_item unit f (block_item.Local d) loop locals t ≡ (visit_local unit f d locals) t
 unfolding visit_block_item visit_stmt

@@ -53,6 +53,11 @@ in_scopes (v ∷ vs) locals =
     in_scopes vs first.locals >>= (λ rest.
     give (record { part = first.part ++ rest.part; locals = rest.locals })))
 
+-- what parts in scopes give, behind what those before them gave
+abbrev pub scoped_behind : {A : Type 0} → List A → Result (Scoped (List A) × Tables) Fault → Result (Scoped (List A) × Tables) Fault
+scoped_behind front (Ok x) = Ok (record { part = front ++ x.0.part; locals = x.0.locals }, x.1)
+scoped_behind front (Err e) = Err e
+
 -- Locals
 
 -- a local gets the next number; a parameter is a local

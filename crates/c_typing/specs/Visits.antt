@@ -1,7 +1,7 @@
 -- Visits (this project's own form): a part of a program is visited from a state, into which it enters
 -- what later parts rest on, and gives something and the state after it, or the first fault in it. One
 -- part is visited after the other, so the first fault in the order of visit is the one that is given.
-use Rattle.std.specs.Prelude.{◌≡◌, ℕ, List, [], ◌∷◌, Option, Some, None, Result, Ok, Err}
+use Rattle.std.specs.Prelude.{◌≡◌, ℕ, List, [], ◌∷◌, ◌++◌, Option, Some, None, Result, Ok, Err}
 use Rattle.c_typing.specs.declared.faults.Fault.{Fault}
 use Rattle.c_typing.specs.declared.faults.TypeKind.{TypeKind}
 use Rattle.c_typing.specs.declared.faults.Refusal.{Refusal}
@@ -81,3 +81,8 @@ abbrev pub Leaves : {S A : Type 0} → Result (A × S) Fault → Result A Refusa
 Leaves rule (Ok x) s = rule ≡ Ok (x, s)
 Leaves rule (Err (refusal.Fault f)) s = rule ≡ Err f
 Leaves rule (Err refusal.NoMemory) s = Unit {0}
+
+-- what parts in order give, behind what those before them gave
+abbrev pub behind : {S A : Type 0} → List A → Result (List A × S) Fault → Result (List A × S) Fault
+behind front (Ok x) = Ok (front ++ x.0, x.1)
+behind front (Err e) = Err e
