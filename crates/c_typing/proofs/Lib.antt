@@ -1,0 +1,5 @@
+pub mod ExprLaws
+pub mod StmtLaws
+pub mod InitLaws
+pub mod Rows
+pub mod LoopLaws

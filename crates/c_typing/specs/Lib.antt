@@ -1,0 +1,14 @@
+pub mod Visits
+pub mod Scopes
+pub mod TypeForms
+pub mod Conversions
+pub mod Expressions
+pub mod Statements
+pub mod Initials
+pub mod Heads
+pub mod Structs
+pub mod Externals
+pub mod Adjustors
+pub mod Items
+pub mod Units
+pub mod Examples

@@ -1,0 +1,61 @@
+use c_types::Ty;
+use hx_words::Items;
+
+/// What a name that a unit declares means.
+#[derive(Clone, Copy, Debug, PartialEq, Eq)]
+pub enum Meaning {
+    /// A pointer to functions of the type at this place of `funs`.
+    Typedef(u32),
+    /// A function, by its place in the program's list, and its type's place in `funs`.
+    Function(u32, u32),
+    /// An adjustor, by its place in the program's list, and its type's place in `funs`.
+    Adjustor(u32, u32),
+    /// A global, by its place in the program's list, and its type.
+    Global(u32, Ty),
+}
+
+/// A name of a unit.
+#[derive(Drop)]
+pub struct UnitName {
+    pub name: Items<u8>,
+    pub meaning: Meaning,
+}
+
+/// A tag of a unit, with the struct's place in `structs`. It is complete from the end of the struct's
+/// definition in this unit on.
+#[derive(Drop)]
+pub struct UnitTag {
+    pub name: Items<u8>,
+    pub place: u32,
+    pub complete: bool,
+}
+
+/// What a unit has declared so far. Each name and each tag stands once.
+#[derive(Drop)]
+pub struct UnitScope {
+    pub names: Items<UnitName>,
+    pub tags: Items<UnitTag>,
+}
+
+/// What a name that a function's body declares means.
+#[derive(Clone, Copy, Debug, PartialEq, Eq)]
+pub enum LocalMeaning {
+    /// A local, by its number, and its type.
+    Variable(u32, Ty),
+    VaList,
+}
+
+/// A name of a block.
+#[derive(Drop)]
+pub struct LocalName {
+    pub name: Items<u8>,
+    pub meaning: LocalMeaning,
+}
+
+/// What the blocks around a place in a body have declared so far: the innermost block, and those
+/// around it, the outermost first. Each name stands once in a block.
+#[derive(Drop)]
+pub struct LocalScope {
+    pub own: Items<LocalName>,
+    pub outer: Items<Items<LocalName>>,
+}
