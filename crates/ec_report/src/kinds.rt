@@ -1,0 +1,151 @@
+//! What the reports of a command hold.
+
+/// Why a step of the machine is none: the first of these that holds, in this order.
+#[derive(Clone, Copy, Debug, PartialEq, Eq)]
+pub enum StuckWhy {
+    /// The program counter is in no code range and at no service.
+    NoRange,
+    /// An EC program counter that is no multiple of 4, or a stack pointer that is no multiple of 16.
+    Misaligned,
+    /// The bytes at the program counter begin with no instruction.
+    BadInstruction,
+    /// An EC instruction names a register that EC code must not use.
+    Blocked,
+    /// An access leaves the region of its address, or no region has it.
+    Unmapped,
+    /// The region lacks the right of the access.
+    Protected,
+    /// A division by zero, or a quotient that doesn't fit.
+    Divide,
+    /// An instruction that halts.
+    Halt,
+    /// Control goes to the other side by an instruction that can't take it there.
+    BadSwitch,
+    /// A function without its thunk is entered from the other side.
+    NoThunk,
+    /// A switch to an address of the wrong kind.
+    BadTarget,
+}
+
+/// How the run of a guest, or of a source, ended.
+#[derive(Clone, Copy, Debug, PartialEq, Eq)]
+pub enum Outcome {
+    /// It ended by `exit`, with this status.
+    Exit(u8),
+    /// It trapped, with this code.
+    Trap(u8),
+    /// The steps or units were spent before the end.
+    Budget,
+    /// The stack was spent.
+    StackSpent,
+    /// The machine has no step, for this reason at this program counter.
+    Stuck(StuckWhy, u64),
+}
+
+/// Why a unit of the grammar is none of the language.
+#[derive(Clone, Copy, Debug, PartialEq, Eq)]
+pub enum TypeKind {
+    /// A name is declared twice in ways that don't agree.
+    Redeclared,
+    /// A name that nothing declares.
+    Unknown,
+    /// A struct whose fields aren't known where its size is needed.
+    Incomplete,
+    /// A type that can't be had, as an array of functions.
+    BadType,
+    /// An expression that gives no value.
+    NotValue,
+    /// An expression that is no place that can be assigned.
+    NotPlace,
+    /// The address of what has none.
+    NoAddress,
+    /// A value that is no pointer where one is wanted.
+    NotPointer,
+    /// A field that the struct hasn't.
+    NoField,
+    /// A value that is no array where one is wanted.
+    NotArray,
+    /// A value that is no integer where one is wanted.
+    NotInteger,
+    /// A value that is neither integer nor pointer where one is wanted.
+    NotScalar,
+    /// Two types that should be one.
+    Mismatch,
+    /// A call of what is no function.
+    NotFunction,
+    /// A call with too few or too many arguments.
+    ArgumentCount,
+    /// A call of a variadic function whose count isn't the number of its further arguments.
+    VariadicCount,
+    /// A use of variadic arguments where there are none.
+    Variadic,
+    /// An initial value that isn't one.
+    BadInitial,
+    /// `break` or `continue` outside a loop.
+    Flow,
+    /// An adjustor that changes no parameter of its function.
+    BadAdjustor,
+    /// A function that is used and nowhere defined.
+    Undefined,
+    /// No `int main(void)` is defined.
+    NoMain,
+}
+
+/// Why a unit is refused, with its first place in the unit, in bytes.
+#[derive(Clone, Copy, Debug, PartialEq, Eq)]
+pub enum UnitRefusal {
+    /// A byte that begins no token.
+    BadByte(u32),
+    /// A number that isn't one.
+    BadNumber(u32),
+    /// A comment, character or text that doesn't end.
+    Unclosed(u32),
+    /// A directive of the preprocessor.
+    Directive(u32),
+    /// A token that the grammar hasn't there.
+    Syntax(u32),
+    /// The unit's tree is too high.
+    TooDeep,
+    /// The unit is in the grammar, and breaks this rule of the types.
+    Typing(TypeKind, u32),
+}
+
+/// What is counted against a limit.
+#[derive(Clone, Copy, Debug, PartialEq, Eq)]
+pub enum LimitKind {
+    /// The units of a command.
+    Units,
+    /// The objects of a command.
+    Objects,
+    /// The bytes of a unit.
+    UnitBytes,
+    /// The bytes of all units.
+    AllBytes,
+    /// The nodes of the program.
+    Nodes,
+    /// The functions and adjustors.
+    Functions,
+    /// The parameters of a function.
+    Parameters,
+    /// The extra arguments of a variadic call.
+    Extras,
+    /// The bytes of a struct.
+    StructBytes,
+    /// The bytes of a frame.
+    FrameBytes,
+    /// The bytes of all globals.
+    GlobalBytes,
+    /// The bytes of a name.
+    NameBytes,
+}
+
+/// Why an image isn't loaded. Want of memory is none of these.
+#[derive(Debug, PartialEq, Eq, Drop)]
+pub enum LoadRefusal {
+    /// The base isn't one at which an image may stand.
+    BadBase,
+    /// An import of this name, which the machine hasn't.
+    UnknownImport(Vec<u8>),
+    /// A place to be relocated, by its distance from the base, that isn't in one section.
+    BadRelocation(u32),
+}
