@@ -42,50 +42,50 @@ pub enum Outcome {
     Stuck(StuckWhy, u64),
 }
 
-/// Why a unit of the grammar is none of the language.
+/// Which rule of the types a unit of the grammar breaks.
 #[derive(Clone, Copy, Debug, PartialEq, Eq)]
 pub enum TypeKind {
-    /// A name is declared twice in ways that don't agree.
+    /// A name or a tag stands again where it may not, or otherwise than before.
     Redeclared,
-    /// A name that nothing declares.
+    /// A name or a tag that the unit doesn't declare before its use.
     Unknown,
-    /// A struct whose fields aren't known where its size is needed.
+    /// A struct that isn't defined yet, other than behind a pointer.
     Incomplete,
-    /// A type that can't be had, as an array of functions.
+    /// `void` other than as a result, an array of no elements, or a type that is too large.
     BadType,
-    /// An expression that gives no value.
+    /// A value is wanted of what has none, as an array or `void`.
     NotValue,
-    /// An expression that is no place that can be assigned.
+    /// An operand that must be a place is none, or is an array.
     NotPlace,
-    /// The address of what has none.
+    /// The address of a local or a parameter, or of a part of one.
     NoAddress,
-    /// A value that is no pointer where one is wanted.
+    /// `*` or `->` on what is no pointer.
     NotPointer,
-    /// A field that the struct hasn't.
+    /// `.` or `->` on what is no struct, or a field that the struct hasn't.
     NoField,
-    /// A value that is no array where one is wanted.
+    /// `[ ]` on what is no array.
     NotArray,
-    /// A value that is no integer where one is wanted.
+    /// An operand or an index that must be an integer is none.
     NotInteger,
-    /// A value that is neither integer nor pointer where one is wanted.
+    /// A condition, or an operand of `!`, `&&` or `||`, is a struct.
     NotScalar,
-    /// Two types that should be one.
+    /// Two types differ where nothing converts, or structs are compared.
     Mismatch,
     /// A call of what is no function.
     NotFunction,
-    /// A call with too few or too many arguments.
+    /// Too few arguments, or too many for a function that isn't variadic.
     ArgumentCount,
-    /// A call of a variadic function whose count isn't the number of its further arguments.
+    /// The last fixed argument isn't the number of the extra arguments.
     VariadicCount,
-    /// A use of variadic arguments where there are none.
+    /// A variadic function, an extra argument or a list of them that isn't as it must be.
     Variadic,
-    /// An initial value that isn't one.
+    /// An initial value that is no constant of the type, or too many of them.
     BadInitial,
-    /// `break` or `continue` outside a loop.
+    /// `break` or `continue` outside a loop, or a `return` that doesn't fit the result.
     Flow,
-    /// An adjustor that changes no parameter of its function.
+    /// An adjustor of what is no function, or of a parameter or by a number that can't be adjusted.
     BadAdjustor,
-    /// A function that is used and nowhere defined.
+    /// A function or a global that is declared and never defined.
     Undefined,
     /// No `int main(void)` is defined.
     NoMain,
