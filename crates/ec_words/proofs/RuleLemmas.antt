@@ -87,5 +87,5 @@ pub line_is : {A : Type 0} (f : A → List ℕ) (verb : Verb) (ws : List A) (n :
 line_is f verb ws n h front back =
     let count : n ≡ length (operands (map f ws)) = operands_count (map f ws) n (simp length-map (omega arith)) front in
     let both : (os : List (List ℕ)) → os ≡ options (map f ws) → (takes_count verb n && are_options (options_of verb) os && required_is verb os) ≡ is_line verb (map f ws) =
-        λ os e. ap₂ (λ m ys. takes_count verb m && are_options (options_of verb) ys && required_is verb ys) count e in
+    λ os e. ap₂ (λ m ys. takes_count verb m && are_options (options_of verb) ys && required_is verb ys) count e in
     both (map f (rest_from ws n)) (options_rest f ws n back)

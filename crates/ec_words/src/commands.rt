@@ -246,7 +246,11 @@ fn many(alloc: Global, given: &Given<'_, '_>) -> Result<Option<Command>, AllocEr
 }
 
 /// The command of this name with what was given.
-fn command_in(alloc: Global, verb: Verb, given: &Given<'_, '_>) -> Result<Option<Command>, AllocError>
+fn command_in(
+    alloc: Global,
+    verb: Verb,
+    given: &Given<'_, '_>,
+) -> Result<Option<Command>, AllocError>
     ensures { IfOk result (λ c. option_map form_of c ≡ command_in verb (parts_in given.now)) }
 {
     match verb {

@@ -71,7 +71,11 @@ fn are_options(verb: Verb, words: &[String]) -> bool
 fn takes_count(verb: Verb, count: usize) -> bool
     ensures { result ≡ takes_count verb count }
 {
-    if takes_many(verb) { count > 0 } else { count == 1 }
+    if takes_many(verb) {
+        count > 0
+    } else {
+        count == 1
+    }
 }
 
 /// Whether the option `-o` is among the options, where the command must have it.
