@@ -89,3 +89,9 @@ line_is f verb ws n h front back =
     let both : (os : List (List ℕ)) → os ≡ options (map f ws) → (takes_count verb n && are_options (options_of verb) os && required_is verb os) ≡ is_line verb (map f ws) =
     λ os e. ap₂ (λ m ys. takes_count verb m && are_options (options_of verb) ys && required_is verb ys) count e in
     both (map f (rest_from ws n)) (options_rest f ws n back)
+
+-- the words after the first places, and the texts of them
+pub rest_map : {A : Type 0} (f : A → List ℕ) (ws : List A) (n : ℕ) → map f (rest_from ws n) ≡ drop n (map f ws)
+rest_map f ws n =
+    let whole : rest_from ws n ≡ drop n ws = take_all (length ws - n) (drop n ws) (simp length-drop (omega arith)) in
+    ap (map f) whole ∙ sym (drop-map f n ws)

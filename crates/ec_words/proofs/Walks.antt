@@ -134,11 +134,11 @@ pub record Ends (w : Walk) (words : List Text) (all : List Row) : Type 0 where
 abbrev Fresh : List Text → List Row → Type 0
 Fresh os rows = (o : Switch) → is_some (value_of (name_of o) os) ≡ true → has_row (id_of o) rows ≡ false
 
-and_left : (a b : Bool) → (a && b) ≡ true → a ≡ true
+pub and_left : (a b : Bool) → (a && b) ≡ true → a ≡ true
 and_left true b e = refl
 and_left false b e = e
 
-and_right : (a b : Bool) → (a && b) ≡ true → b ≡ true
+pub and_right : (a b : Bool) → (a && b) ≡ true → b ≡ true
 and_right true b e = e
 and_right false b e = absurd (cc)
 
@@ -155,11 +155,14 @@ fresh_after o v rest all fresh once p later =
     named : (b : Bool) → is_some (if b then Some v else value_of (name_of p) rest) ≡ true
     named true = refl
     named false = later
+
     before : has_row (id_of p) all ≡ false
     before = fresh p (named (bytes_eq (name_of o) (name_of p)))
+
     go : (b : Bool) → bytes_eq (name_of o) (name_of p) ≡ b → bytes_eq (id_of o) (id_of p) ≡ false
     go false e = same_switch o p ∙ e
     go true e = absurd (not_both _ once (ap (λ n. is_some (value_of n rest)) (same_text (name_of o) (name_of p) e) ∙ later))
+
     apart : bytes_eq (id_of o) (id_of p) ≡ false
     apart = go (bytes_eq (name_of o) (name_of p)) refl
 
@@ -183,9 +186,9 @@ option_ends : (o : Switch) (v : Text) (rest : List Text) (all rows : List Row) (
 unfolding walk_passes
 option_ends o v rest all rows p more operand absent stands all' ends =
     let first : walked top.rules [] (walk_at rows p (open_to more)) (name_of o) ≡ walk_at all (Some (id_of o, [])) (option (id_of o)) =
-        name_step o more rows p ∙ ap (λ rs. walk_at rs (Some (id_of o, [])) (option (id_of o))) stands.settles in
+    name_step o more rows p ∙ ap (λ rs. walk_at rs (Some (id_of o, [])) (option (id_of o))) stands.settles in
     let second : walked top.rules [] (walked top.rules [] (walk_at rows p (open_to more)) (name_of o)) v ≡ walk_at all (Some (id_of o, v ∷ [])) (open_to false) =
-        ap (λ w. walked top.rules [] w v) first ∙ value_step o all v operand in
+    ap (λ w. walked top.rules [] w v) first ∙ value_step o all v operand in
     record {
       rows = ends.rows;
       pending = ends.pending;
@@ -226,9 +229,9 @@ options_end c (n ∷ (v ∷ rest)) all rows p more os_are fresh stands =
     go o v operand fresh once next =
         let absent : has_row (id_of o) all ≡ false = fresh o (met_here o v rest) in
         let after = next (all ++ row (id_of o) (v ∷ []) ∷ []) all (Some (id_of o, v ∷ [])) false (fresh_after o v rest all fresh once)
-            (record { settles = option_settles o all v absent; passes = option_settles_well o all v absent }) in
+        (record { settles = option_settles o all v absent; passes = option_settles_well o all v absent }) in
         let same : (all ++ row (id_of o) (v ∷ []) ∷ []) ++ option_rows rest ≡ all ++ option_rows (name_of o ∷ (v ∷ rest)) =
-            append_assoc all (row (id_of o) (v ∷ []) ∷ []) (option_rows rest) ∙ ap (λ id. all ++ (row id (v ∷ []) ∷ option_rows rest)) (sym (id_named-name o)) in
+        append_assoc all (row (id_of o) (v ∷ []) ∷ []) (option_rows rest) ∙ ap (λ id. all ++ (row id (v ∷ []) ∷ option_rows rest)) (sym (id_named-name o)) in
         subst (Ends (walk_at rows p (open_to more)) (name_of o ∷ (v ∷ rest))) same (option_ends o v rest all rows p more operand absent stands _ after)
 
 words_have : (us : List Text) (o : Switch) → has_row (id_of o) (words_rows us) ≡ false
@@ -250,7 +253,7 @@ word_ends : (w : Text) (rest us : List Text) (rows : List Row) (p : Option (Text
 unfolding walk_passes
 word_ends w rest us rows p more operand stands all ends =
     let first : walked top.rules [] (walk_at rows p (open_to more)) w ≡ walk_at (words_rows us) (Some (words_id, w ∷ [])) (open_to true) =
-        word_step more rows p w operand ∙ ap (λ rs. walk_at rs (Some (words_id, w ∷ [])) (open_to true)) stands.settles in
+    word_step more rows p w operand ∙ ap (λ rs. walk_at rs (Some (words_id, w ∷ [])) (open_to true)) stands.settles in
     record {
       rows = ends.rows;
       pending = ends.pending;

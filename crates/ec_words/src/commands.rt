@@ -102,8 +102,8 @@ fn first_of<'a>(given: &Given<'_, 'a>) -> &'a str
     ensures { result.now ≡ first_of (parts_in given.now) }
 {
     match given.operands {
-        [first, ..] => *first,
-        [] => "",
+        Some([first, ..]) => *first,
+        _ => "",
     }
 }
 
@@ -117,15 +117,25 @@ fn output_of(alloc: Global, given: &Given<'_, '_>) -> Result<String, AllocError>
     }
 }
 
+/// Words as texts of their own.
+fn owned(alloc: Global, words: &[&str]) -> Result<Vec<String>, AllocError>
+    ensures { IfOk result (λ all. map string_bytes all.items ≡ map (λ w. w.now) words.now) }
+{
+    let mut all = Vec::with_capacity(alloc, words.len())?;
+    for word in words {
+        all.push(String::from_str(alloc, word)?)?;
+    }
+    Ok(all)
+}
+
 /// The positional words as the command's own.
 fn operands_of(alloc: Global, given: &Given<'_, '_>) -> Result<Vec<String>, AllocError>
     ensures { IfOk result (λ all. map string_bytes all.items ≡ (parts_in given.now).operands) }
 {
-    let mut all = Vec::new(alloc);
-    for word in given.operands {
-        all.push(String::from_str(alloc, word)?)?;
+    match given.operands {
+        Some(words) => owned(alloc, words),
+        None => Ok(Vec::new(alloc)),
     }
-    Ok(all)
 }
 
 fn interp(alloc: Global, given: &Given<'_, '_>) -> Result<Option<Command>, AllocError>

@@ -3,7 +3,8 @@
 /// The positional words, and the value of each option that is there.
 #[derive(Clone, Copy, Debug)]
 pub struct Given<'m, 'a> {
-    pub operands: &'m [&'a str],
+    /// The positional words.
+    pub operands: Option<&'m [&'a str]>,
     /// `-o`
     pub output: Option<&'a str>,
     /// `-m`

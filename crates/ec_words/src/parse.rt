@@ -10,6 +10,7 @@ ghost use Rattle.ec_words.specs.Parse.{line_app, empty_app, words_rule, short_ru
 
 use crate::given::Given;
 use crate::table::Verb;
+use clap::error::ErrorKind;
 use clap::{Arg, ArgAction, ArgMatches};
 use std::alloc::{AllocError, Global};
 
@@ -82,7 +83,10 @@ pub fn parse<'a>(
     let line = line(alloc)?;
     match line.try_get_matches_from(words) {
         Ok(matches) => Ok(matches),
-        Err(_) => Err(AllocError),
+        Err(error) => match error.kind() {
+            ErrorKind::OutOfMemory => Err(AllocError),
+            _ => unreachable!(),
+        },
     }
 }
 
@@ -91,7 +95,7 @@ pub fn given<'m, 'a>(matches: &'m ArgMatches<'a>) -> Given<'m, 'a>
     ensures { parts_in result ≡ parts_found matches.entry.now }
 {
     Given {
-        operands: matches.get_strs("words").unwrap_or(&[]),
+        operands: matches.get_strs("words"),
         output: matches.get_str("output"),
         marking: matches.get_str("marking"),
         stack: matches.get_str("stack"),

@@ -1,5 +1,0 @@
-use Rattle.std.proofs.Common.{◌≡◌, ℕ, drop, map, ◌++◌, string_bytes}
-use Rattle.ec_words.proofs.commands.operands_of.Given as goal
-
-abbrev pub invariant-loop-word : goal.invariant-loop-word
-invariant-loop-word l = map string_bytes l.all.items ++ map (λ w. w.now) (drop l.word-index l.word-items) ≡ map (λ w. w.now) l.word-items
