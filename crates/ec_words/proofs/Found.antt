@@ -1,23 +1,23 @@
 -- The parse of a command line that passes the rule of words: it succeeds, and finds its parts.
-use Rattle.std.proofs.Common.{◌≡◌, ℕ, ◌&&◌, ◌||◌, ◌==◌, not, Bool, true, false, List, [], ◌∷◌, ◌++◌, Option, Some, None, is_some, cond, codes, if◌then◌else◌, option_map, option_and_then, unwrap_or, slice_get, refl, sym, ap, ap₂, subst, ◌∙◌, map, drop, length, arith}
+use Rattle.std.proofs.Common.{◌≡◌, ◌&&◌, not, Bool, true, false, List, [], ◌∷◌, ◌++◌, Option, Some, None, is_some, codes, if◌then◌else◌, option_map, unwrap_or, refl, ap, subst, ◌∙◌, drop, length, arith}
 use Rattle.std.specs.Str.{bytes_eq}
-use Rattle.std.specs.List.{fold, find, list_all, list_any}
+use Rattle.std.specs.List.{fold, list_all}
 use Rattle.clap.specs.declared.parser.matches.ArgMatches.{ArgMatches}
 use Rattle.clap.specs.Matches.{found_of, matched_of, raw_values, first_value}
-use Rattle.clap.specs.Walk.{Row, Rule, Walk, walked, walk, has_row, first_of, all_of, rows_of, settled_rows, default_rows, reading_by, with_default, nothing_held, is_empty, finished, idle}
-use Rattle.clap.specs.Simple.{App, is_simple, matches_of, built}
-use Rattle.clap.specs.Takes.{takes, built_takes, level_passes, walk_passes, settle_passes, entered_passes}
+use Rattle.clap.specs.Walk.{Row, Rule, Walk, has_row, first_of, all_of, rows_of, default_rows, reading_by, with_default, is_empty, finished, idle}
+use Rattle.clap.specs.Simple.{matches_of}
+use Rattle.clap.specs.Takes.{takes}
 use Rattle.clap.proofs.OnLiterals.{clap_on_literals}
 use Rattle.clap.proofs.WalkLemmas.{first_value-rows, raw_values-rows}
 use Rattle.ec_words.specs.declared.table.Verb.{Verb}
 use Rattle.ec_words.specs.Table.{Text, options_of}
 use Rattle.ec_words.specs.declared.table.Verb.TheVariants as verb
 use Rattle.ec_words.specs.Rule.{is_operand, operands, options, value_of, are_options, takes_count, is_line}
-use Rattle.ec_words.specs.Commands.{Parts, parts_of}
+use Rattle.ec_words.specs.Commands.{parts_of}
 use Rattle.ec_words.specs.Parse.{line_app, parts_found}
-use Rattle.ec_words.proofs.Steps.{Switch, output, marking, stack, base, fuel, size, name_of, id_of, words_id, top, row, held, walk_at, words_rows}
+use Rattle.ec_words.proofs.Steps.{Switch, output, marking, stack, base, fuel, size, name_of, id_of, words_id, top, row, walk_at, words_rows}
 use Rattle.std.proofs.lemmas.Bool.Decides.{nat_tests}
-use Rattle.ec_words.proofs.Walks.{Stands, Ends, words_end, option_rows, id_named, id_named-name, same_switch, known, and_left, and_right, all_rows}
+use Rattle.ec_words.proofs.Walks.{Ends, words_end, option_rows, id_named, id_named-name, same_switch, known, and_left, and_right, all_rows}
 
 -- ---- after the walk
 

@@ -1,5 +1,5 @@
 -- Lemmas of the rule of words.
-use Rattle.std.proofs.Common.{◌≡◌, ℕ, ◌+◌, ◌-◌, ◌<◌, ◌≤◌, ◌&&◌, ◌==◌, not, zero, suc, Bool, true, false, List, [], ◌∷◌, ◌++◌, map, length, take, drop, is_some, slice_index_or, refl, sym, ap, ap₂, ◌∙◌, ◌||◌, codes, arith}
+use Rattle.std.proofs.Common.{◌≡◌, ℕ, ◌-◌, ◌<◌, ◌≤◌, ◌&&◌, ◌==◌, not, zero, suc, Bool, true, false, List, [], ◌∷◌, ◌++◌, map, length, take, drop, is_some, slice_index_or, refl, sym, ap, ap₂, ◌∙◌, ◌||◌, codes, arith}
 use Rattle.std.proofs.lemmas.List.{take_all, drop-map, length-drop, length-take-le, length-map}
 use Rattle.std.specs.Str.{bytes_eq}
 use Rattle.std.specs.List.{list_any}
@@ -20,7 +20,7 @@ short_options f names (w ∷ (v ∷ ws)) h = absurd (omega arith)
 abbrev pub pair_is : List (List ℕ) → List ℕ → List ℕ → List (List ℕ) → Bool
 pair_is names n v rest = list_any (λ name. bytes_eq name n) names && (is_operand v && not (is_some (value_of n rest)))
 
-and_assoc : (a b c d : Bool) → (a && (b && (c && d))) ≡ ((a && (b && c)) && d)
+pub and_assoc : (a b c d : Bool) → (a && (b && (c && d))) ≡ ((a && (b && c)) && d)
 and_assoc true true c d = refl
 and_assoc true false c d = refl
 and_assoc false b c d = refl

@@ -1,12 +1,12 @@
 -- What `clap` makes of one more word of a command line that passes the rule of words.
-use Rattle.std.proofs.Common.{◌≡◌, ℕ, ◌&&◌, ◌||◌, ◌==◌, not, Bool, true, false, List, [], ◌∷◌, ◌++◌, Option, Some, None, is_some, codes, if◌then◌else◌, option_and_then, refl, sym, ap, ◌∙◌, append-nil}
-use Rattle.std.specs.Str.{bytes_eq, chars}
+use Rattle.std.proofs.Common.{◌≡◌, ◌&&◌, ◌||◌, ◌==◌, not, Bool, true, false, List, [], ◌∷◌, ◌++◌, Option, Some, None, codes, if◌then◌else◌, option_and_then, refl, sym, ap, ◌∙◌, append-nil}
+use Rattle.std.specs.Str.{bytes_eq}
 use Rattle.std.specs.Option.{option_map_or}
 use Rattle.clap.specs.declared.builder.value_parser.ValueParser.TheVariants as vp
 use Rattle.clap.specs.declared.parser.matches.ValueSource.TheVariants.{CommandLine}
 use Rattle.clap.specs.Values.{reading_of}
 use Rattle.clap.specs.Lexer.{long_of, long_of_rest, short_of, short_of_rest, strip_byte}
-use Rattle.clap.specs.Walk.{Held, Row, Rule, Step, Waiting, idle, option, positional, trailing, Walk, walked, after_step, at_row, has_row, long_or_other, more_values, plain_word, pushed, settled, settled_rows, short_or_plain, subcommand_met, subcommand_or_other, with_values, without, word_met}
+use Rattle.clap.specs.Walk.{Held, Row, Step, Waiting, idle, option, positional, trailing, Walk, walked, after_step, at_row, has_row, long_or_other, more_values, plain_word, pushed, settled, settled_rows, short_or_plain, subcommand_met, subcommand_or_other, with_values, without, word_met}
 use Rattle.clap.specs.Simple.{Shape, built}
 use Rattle.clap.specs.Takes.{bundle_passes, flag_word_passes, other_passes, settle_passes, step_passes, turn_passes, word_passes}
 use Rattle.clap.proofs.OnLiterals.{clap_on_literals}

@@ -1,5 +1,5 @@
 -- What `clap` makes of all words of a command line that passes the rule of words.
-use Rattle.std.proofs.Common.{◌≡◌, ℕ, ◌&&◌, ◌||◌, ◌==◌, not, Bool, true, false, List, [], ◌∷◌, ◌++◌, Option, Some, None, is_some, codes, if◌then◌else◌, refl, sym, ap, ap₂, subst, ◌∙◌, append-nil, append_assoc, true≢false, map}
+use Rattle.std.proofs.Common.{◌≡◌, ◌&&◌, ◌||◌, not, Bool, true, false, List, [], ◌∷◌, ◌++◌, Option, Some, is_some, codes, if◌then◌else◌, refl, sym, ap, ap₂, subst, ◌∙◌, append-nil, append_assoc, map}
 use Rattle.std.specs.Str.{bytes_eq}
 use Rattle.std.specs.List.{fold, list_any}
 use Rattle.std.proofs.lemmas.Slice.Eq.{bytes_eq-Decides}
@@ -10,7 +10,7 @@ use Rattle.ec_words.specs.declared.table.Verb.{Verb}
 use Rattle.ec_words.specs.declared.table.Verb.TheVariants as verb
 use Rattle.ec_words.specs.Table.{Text, options_of}
 use Rattle.ec_words.specs.Rule.{is_operand, operands, options, value_of, are_options}
-use Rattle.ec_words.proofs.Steps.{Switch, output, marking, stack, base, fuel, size, name_of, id_of, words_id, top, row, held, walk_at, open_to, name_step, name_passes, value_step, value_passes, word_step, word_turn, option_settles, option_settles_well, words_rows, word_settles, word_settles_well, or_left, or_right}
+use Rattle.ec_words.proofs.Steps.{Switch, output, marking, stack, base, fuel, size, name_of, id_of, words_id, top, row, held, walk_at, open_to, name_step, name_passes, value_step, value_passes, word_step, word_turn, option_settles, option_settles_well, words_rows, word_settles, word_settles_well}
 
 -- ---- names of options
 

@@ -1,5 +1,5 @@
 -- The commands that words are: this project's own.
-use Rattle.std.specs.Prelude.{ℕ, ◌-◌, ◌^◌, List, [], ◌∷◌, map, Option, Some, None, option_map, option_and_then, unwrap_or, slice_get, string_bytes, codes, if◌then◌else◌}
+use Rattle.std.specs.Prelude.{ℕ, List, [], ◌∷◌, map, Option, Some, None, option_map, option_and_then, unwrap_or, slice_get, string_bytes, codes, if◌then◌else◌}
 use Rattle.ec_words.specs.declared.table.Verb.{Verb}
 use Rattle.ec_words.specs.declared.table.Verb.TheVariants as verb
 use Rattle.ec_words.specs.declared.commands.Command.{Command}

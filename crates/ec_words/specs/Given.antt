@@ -1,7 +1,6 @@
 -- What was given, as contracts see it.
-use Rattle.std.specs.Prelude.{List, [], Option, map, option_map, unwrap_or}
+use Rattle.std.specs.Prelude.{[], map, option_map, unwrap_or}
 use Rattle.ec_words.specs.declared.given.Given.{Given}
-use Rattle.ec_words.specs.Table.{Text}
 use Rattle.ec_words.specs.Commands.{Parts}
 
 abbrev pub parts_in : Given → Parts

@@ -5,3 +5,4 @@ pub mod Markings
 pub mod Commands
 pub mod Given
 pub mod Parse
+pub mod Laws

@@ -1,6 +1,6 @@
 -- Numbers in words: this project's own. One or more decimal digits, or `0x` and one or more hexadecimal
 -- digits in small or capital letters, below 2^64; leading zeros count for nothing.
-use Rattle.std.specs.Prelude.{ℕ, ◌^◌, ◌+◌, ◌*◌, ◌/◌, List, [], ◌∷◌, length, Bool, ◌&&◌, ◌==◌, nat_lt, nat_le, Option, Some, None, option_and_then, if◌then◌else◌}
+use Rattle.std.specs.Prelude.{ℕ, ◌^◌, ◌+◌, ◌*◌, ◌/◌, List, ◌∷◌, length, Bool, ◌&&◌, ◌==◌, nat_lt, nat_le, Option, Some, None, option_and_then, if◌then◌else◌}
 use Rattle.std.specs.List.{list_all}
 use Rattle.std.specs.Char.{digit_value}
 use Rattle.std.specs.Str.Parse.{digits_value}

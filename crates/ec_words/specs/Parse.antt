@@ -1,7 +1,7 @@
 -- The command line as `clap` has it, and what it found.
-use Rattle.std.specs.Prelude.{ℕ, List, [], ◌∷◌, ◌++◌, Option, Some, true, codes, option_map, unwrap_or}
+use Rattle.std.specs.Prelude.{ℕ, List, [], Some, true, codes, option_map, unwrap_or}
 use Rattle.clap.specs.Matches.{found_of, matched_of, raw_values, first_value}
-use Rattle.clap.specs.Simple.{App, Shape, new_app, new_rule, with_rule, on_top}
+use Rattle.clap.specs.Simple.{App, new_app, new_rule, with_rule, on_top}
 use Rattle.clap.specs.Walk.{Rule}
 use Rattle.clap.specs.declared.builder.action.ArgAction.TheVariants.{Append}
 use Rattle.clap.specs.declared.parser.matches.ArgMatches.{ArgMatches}

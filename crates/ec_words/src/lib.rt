@@ -8,6 +8,7 @@
 
 pub mod commands;
 pub mod given;
+pub mod laws;
 pub mod markings;
 pub mod numbers;
 pub mod parse;

@@ -1,4 +1,4 @@
-use Rattle.std.proofs.Common.{◌≡◌, ◌∙◌, ℕ, List, [], ◌∷◌, true, Some, None, Option, option_map, option_and_then, if◌then◌else◌, ap, sym, map, drop, length, ◌<◌, slice_index_or, string_bytes, arith, rules}
+use Rattle.std.proofs.Common.{◌≡◌, ◌∙◌, ℕ, List, [], ◌∷◌, true, Some, None, option_and_then, if◌then◌else◌, ap, sym, map, drop, length, ◌<◌, slice_index_or, string_bytes, arith, rules}
 use Rattle.ec_words.specs.declared.table.Verb.{Verb}
 use Rattle.ec_words.specs.Table.{verb_of}
 use Rattle.ec_words.specs.Rule.{is_line}

@@ -1,4 +1,4 @@
-use Rattle.std.proofs.Common.{◌≡◌, ℕ, drop, map, ◌++◌, []}
+use Rattle.std.proofs.Common.{◌≡◌, drop, map, ◌++◌, []}
 use Rattle.ec_words.specs.Markings.{pieces_after}
 use Rattle.ec_words.proofs.markings.pieces.Given as goal
 

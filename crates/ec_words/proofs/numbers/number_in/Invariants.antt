@@ -1,4 +1,4 @@
-use Rattle.std.proofs.Common.{◌≡◌, ◌<◌, ◌^◌, ℕ, drop}
+use Rattle.std.proofs.Common.{◌≡◌, ◌<◌, ◌^◌, drop}
 use Rattle.std.specs.Str.Parse.{digits_value_after, digits_value}
 use Rattle.ec_words.specs.Numbers.{are_digits}
 use Rattle.ec_words.proofs.numbers.number_in.Given as goal

@@ -1,4 +1,4 @@
-use Rattle.std.proofs.Common.{◌≡◌, ◌∙◌, ap₂}
+use Rattle.std.proofs.Common.{◌∙◌, ap₂}
 use Rattle.clap.specs.Simple.{with_rule}
 use Rattle.ec_words.proofs.parse.line.Goals as goal
 

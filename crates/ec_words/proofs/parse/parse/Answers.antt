@@ -1,4 +1,4 @@
-use Rattle.std.proofs.Common.{◌≡◌, ◌∙◌, ◌&&◌, Bool, true, ap, ap₂, drop, map, string_bytes, refl}
+use Rattle.std.proofs.Common.{◌≡◌, ◌∙◌, true, ap, drop, map, string_bytes}
 use Rattle.clap.specs.Simple.{is_simple, matches_of}
 use Rattle.clap.specs.Takes.{takes}
 use Rattle.ec_words.specs.Rule.{are_options, options}

@@ -1,4 +1,4 @@
-use Rattle.std.proofs.Common.{◌≡◌, ◌∙◌, ◌&&◌, Bool, true, false, ap, ap₂, sym, rules, string_bytes, map}
+use Rattle.std.proofs.Common.{◌≡◌, ◌∙◌, ◌&&◌, true, false, ap, ap₂, sym, string_bytes, map}
 use Rattle.ec_words.specs.Table.{options_of}
 use Rattle.ec_words.specs.Rule.{are_options}
 use Rattle.ec_words.proofs.RuleLemmas.{pair_options, pair_is, rest_after, short_options}

@@ -1,4 +1,4 @@
-use Rattle.std.proofs.Common.{◌≡◌, ℕ, length, map, string_bytes}
+use Rattle.std.proofs.Common.{◌≡◌, length, map, string_bytes}
 use Rattle.ec_words.specs.Table.{options_of}
 use Rattle.ec_words.specs.Rule.{are_options}
 use Rattle.ec_words.proofs.rule.are_options.Given as goal

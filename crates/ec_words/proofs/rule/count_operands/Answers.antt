@@ -1,5 +1,5 @@
-use Rattle.std.proofs.Common.{◌≡◌, ◌∙◌, ◌++◌, true, false, ap, sym, [], arith, rules, add-one, append-nil, string_bytes, take, drop, map}
-use Rattle.ec_words.specs.Rule.{is_operand, operands}
+use Rattle.std.proofs.Common.{◌≡◌, ◌∙◌, ◌++◌, true, false, ap, sym, arith, add-one, append-nil, string_bytes, take, map}
+use Rattle.ec_words.specs.Rule.{is_operand}
 use Rattle.ec_words.proofs.RuleLemmas.{front_more, back_more, front_end, back_end}
 use Rattle.ec_words.proofs.rule.count_operands.Goals as goal
 

@@ -1,4 +1,4 @@
-use Rattle.std.proofs.Common.{◌≡◌, ◌≤◌, ◌-◌, ℕ, length, take, drop, map, ◌++◌, string_bytes}
+use Rattle.std.proofs.Common.{◌≡◌, ◌≤◌, ◌-◌, length, take, drop, map, ◌++◌, string_bytes}
 use Rattle.ec_words.specs.Rule.{operands, options}
 use Rattle.ec_words.proofs.rule.count_operands.Given as goal
 

@@ -1,4 +1,4 @@
-use Rattle.std.proofs.Common.{◌≡◌, ◌∙◌, string_bytes}
+use Rattle.std.proofs.Common.{◌∙◌, string_bytes}
 use Rattle.ec_words.proofs.RuleLemmas.{short_value}
 use Rattle.ec_words.proofs.rule.has_value.Goals as goal
 

@@ -1,4 +1,4 @@
-use Rattle.std.proofs.Common.{◌≡◌, ℕ, length, map, is_some, string_bytes}
+use Rattle.std.proofs.Common.{◌≡◌, length, map, is_some, string_bytes}
 use Rattle.ec_words.specs.Rule.{value_of}
 use Rattle.ec_words.proofs.rule.has_value.Given as goal
 

@@ -1,4 +1,4 @@
-use Rattle.std.proofs.Common.{◌≡◌, ◌∙◌, ◌&&◌, Bool, ap₂, string_bytes}
+use Rattle.std.proofs.Common.{◌∙◌, ◌&&◌, Bool, ap₂, string_bytes}
 use Rattle.ec_words.proofs.RuleLemmas.{line_is}
 use Rattle.ec_words.proofs.rule.is_line.Goals as goal
 

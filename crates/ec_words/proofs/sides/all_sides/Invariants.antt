@@ -1,4 +1,4 @@
-use Rattle.std.proofs.Common.{◌≡◌, ℕ, drop, map, ◌++◌}
+use Rattle.std.proofs.Common.{◌≡◌, drop, map, ◌++◌}
 use Rattle.ec_words.specs.Markings.{marks_of, sides_from}
 use Rattle.ec_words.proofs.sides.all_sides.Given as goal
 

@@ -1,4 +1,4 @@
-use Rattle.std.proofs.Common.{◌≡◌, ℕ, drop, map}
+use Rattle.std.proofs.Common.{◌≡◌, drop, map}
 use Rattle.ec_words.specs.Markings.{is_among}
 use Rattle.ec_words.proofs.sides.is_defined.Given as goal
 

@@ -1,4 +1,4 @@
-use Rattle.std.proofs.Common.{◌≡◌, ℕ, drop, map}
+use Rattle.std.proofs.Common.{◌≡◌, drop, map}
 use Rattle.ec_words.specs.Markings.{unknown_mark}
 use Rattle.ec_words.proofs.sides.unknown_mark.Given as goal
 
