@@ -6,7 +6,7 @@ ghost use Rattle.ec_report.specs.Names.{why_name, type_name, limit_name, load_na
 use crate::kinds::{LimitKind, LoadRefusal, StuckWhy, TypeKind};
 
 /// The word for a reason of the machine.
-pub fn why_name(why: StuckWhy) -> &'static str
+pub(crate) fn why_name(why: StuckWhy) -> &'static str
     ensures { result.now ≡ why_name why }
 {
     match why {
@@ -25,7 +25,7 @@ pub fn why_name(why: StuckWhy) -> &'static str
 }
 
 /// The word for a rule of the types.
-pub fn type_name(kind: TypeKind) -> &'static str
+pub(crate) fn type_name(kind: TypeKind) -> &'static str
     ensures { result.now ≡ type_name kind }
 {
     match kind {
@@ -55,7 +55,7 @@ pub fn type_name(kind: TypeKind) -> &'static str
 }
 
 /// The word for a limit.
-pub fn limit_name(which: LimitKind) -> &'static str
+pub(crate) fn limit_name(which: LimitKind) -> &'static str
     ensures { result.now ≡ limit_name which }
 {
     match which {
@@ -75,7 +75,7 @@ pub fn limit_name(which: LimitKind) -> &'static str
 }
 
 /// The word for a reason of the loader.
-pub fn load_name(why: &LoadRefusal) -> &'static str
+pub(crate) fn load_name(why: &LoadRefusal) -> &'static str
     ensures { result.now ≡ load_name why.now }
 {
     match why {
