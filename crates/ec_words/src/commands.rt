@@ -14,7 +14,7 @@ use crate::table::{Verb, verb_of};
 use std::alloc::{AllocError, Global};
 
 /// What the program is to do.
-#[derive(Debug, PartialEq, Eq, Drop)]
+#[derive(Debug, Drop)]
 pub enum Command {
     /// Checks the units.
     Check {

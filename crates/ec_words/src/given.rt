@@ -1,7 +1,7 @@
 //! The positional words and the values of options that were given.
 
 /// The positional words, and the value of each option that is there.
-#[derive(Clone, Copy, Debug)]
+#[derive(Clone, Copy)]
 pub struct Given<'m, 'a> {
     /// The positional words.
     pub operands: Option<&'m [&'a str]>,

@@ -19,7 +19,7 @@ pub enum BaseMarking {
 }
 
 /// A marking: a base, and the names of those that are turned to the other side.
-#[derive(Debug, PartialEq, Eq, Drop)]
+#[derive(Debug, Drop)]
 pub struct Marking {
     pub base: BaseMarking,
     pub turned: Vec<Vec<u8>>,

@@ -9,7 +9,7 @@ use std::alloc::{AllocError, Global};
 use thiserror::Error;
 
 /// Why a marking gives no sides.
-#[derive(PartialEq, Eq, Debug, Drop, Error)]
+#[derive(Debug, Drop, Error)]
 pub enum MarkRefusal {
     /// The first name of the marking that no function and no adjustor has.
     #[error("a name that nothing defines")]

@@ -1,143 +1,86 @@
 //! Words and what they are, worked out by hand from the table of commands.
 
-use crate::{BaseMarking, Command, MarkRefusal, Marking, number, read_command, sides_of};
-use hx_names::Side;
-use std::process::Abort;
+use crate::{BaseMarking, Command, Marking, number, read_command, sides_of};
 use std::test::Fail;
 
-fn words_of<R: AllocGlobal>(rt: &R, line: &[&str]) -> Result<Vec<String>, Fail> {
+fn read<R: AllocGlobal>(rt: &R, line: &[&str]) -> Result<Option<Command>, Fail> {
     let mut words = Vec::new(rt.alloc());
     for word in line {
         words.push(String::from_str(rt.alloc(), word)?)?;
     }
-    Ok(words)
-}
-
-fn read<R: AllocGlobal>(rt: &R, line: &[&str]) -> Result<Option<Command>, Fail> {
-    let words = words_of(rt, line)?;
     Ok(read_command(rt.alloc(), &words)?)
-}
-
-fn text<R: AllocGlobal>(rt: &R, bytes: &str) -> Result<String, Fail> {
-    Ok(String::from_str(rt.alloc(), bytes)?)
-}
-
-fn marking<R: AllocGlobal>(rt: &R, base: BaseMarking, names: &[&str]) -> Result<Marking, Fail> {
-    let mut turned = Vec::new(rt.alloc());
-    for name in names {
-        turned.push(Vec::from_slice(rt.alloc(), name.as_bytes())?)?;
-    }
-    Ok(Marking { base, turned })
-}
-
-fn reads<R: Abort + AllocGlobal>(rt: &R, line: &[&str], wanted: Command) -> Result<(), Fail> {
-    assert_eq!(rt; read(rt, line)?, Some(wanted), "{line:?}");
-    Ok(())
 }
 
 #[test]
 fn commands(rt: HostRuntime) -> Result<(), Fail> {
-    let units = words_of(&rt, &["a.c", "b.c"])?;
-    reads(&rt, &["check", "a.c", "b.c"], Command::Check { units })?;
-    let units = words_of(&rt, &["p.c"])?;
-    let fuel = 100_000_000;
-    reads(&rt, &["interp", "p.c"], Command::Interp { units, fuel })?;
-    let units = words_of(&rt, &["p.c"])?;
-    let fuel = 1_000_000_000_000;
-    let line = ["interp", "p.c", "--fuel", "0xE8D4A51000"];
-    reads(&rt, &line, Command::Interp { units, fuel })?;
-    let units = words_of(&rt, &["c.c"])?;
-    let stem = text(&rt, "q")?;
-    let turned = marking(&rt, BaseMarking::Alternate, &[])?;
-    let line = ["compile", "c.c", "-m", "alt", "-o", "q"];
-    reads(
-        &rt,
-        &line,
-        Command::Compile {
-            units,
-            stem,
-            marking: turned,
-        },
-    )?;
-    let objects = words_of(&rt, &["q.0.ec.obj"])?;
-    let image = text(&rt, "p.img")?;
-    let line = ["link", "q.0.ec.obj", "-o", "p.img", "--stack", "65537"];
-    reads(
-        &rt,
-        &line,
-        Command::Link {
-            objects,
-            image,
-            stack: 69_632,
-        },
-    )?;
-    let units = words_of(&rt, &["p.c"])?;
-    let image = text(&rt, "p.img")?;
-    let turned = marking(&rt, BaseMarking::X64, &["odd", "", "odd"])?;
-    let line = [
-        "build",
-        "p.c",
-        "--stack",
-        "0268435456",
-        "-o",
-        "p.img",
-        "-m",
-        "x64,odd,,odd",
-    ];
-    reads(
-        &rt,
-        &line,
-        Command::Build {
-            units,
-            image,
-            marking: turned,
-            stack: 268_435_456,
-        },
-    )?;
-    let image = text(&rt, "p.img")?;
-    let line = [
-        "run",
-        "p.img",
-        "--base",
-        "18446744073709551615",
-        "--fuel",
-        "0",
-    ];
-    reads(
-        &rt,
-        &line,
-        Command::Run {
-            image,
-            base: u64::MAX,
-            fuel: 0,
-        },
-    )?;
-    let units = words_of(&rt, &["p.c"])?;
-    let image = text(&rt, "p.img")?;
-    let turned = marking(&rt, BaseMarking::X64, &[])?;
-    let wanted = Command::Exec {
-        units,
-        image,
-        marking: turned,
-        stack: 1_048_576,
-        base: 0x1_4000_0000,
-        fuel: 100_000_000,
-    };
-    reads(&rt, &["exec", "p.c", "-o", "p.img"], wanted)?;
-    let size = 200;
-    reads(&rt, &["gen", "1"], Command::Gen { number: 1, size })?;
-    let number = 0xFF;
-    reads(
-        &rt,
-        &["gen", "0x0fF", "--size", "0x3e8"],
-        Command::Gen { number, size: 1000 },
-    )?;
-    let stem = text(&rt, "q")?;
-    reads(
-        &rt,
-        &["many", "1", "-o", "q"],
-        Command::Many { number: 1, stem },
-    )
+    for (line, wanted) in [
+        (
+            ["check", "a.c", "b.c"].as_slice(),
+            r#"Check { units: ["a.c", "b.c"] }"#,
+        ),
+        (
+            &["interp", "p.c"],
+            r#"Interp { units: ["p.c"], fuel: 100000000 }"#,
+        ),
+        (
+            &["interp", "p.c", "--fuel", "0xE8D4A51000"],
+            r#"Interp { units: ["p.c"], fuel: 1000000000000 }"#,
+        ),
+        (
+            &["compile", "c.c", "-m", "alt", "-o", "q"],
+            r#"Compile { units: ["c.c"], stem: "q", marking: Marking { base: Alternate, turned: [] } }"#,
+        ),
+        (
+            &["link", "q.0.ec.obj", "-o", "p.img", "--stack", "65537"],
+            r#"Link { objects: ["q.0.ec.obj"], image: "p.img", stack: 69632 }"#,
+        ),
+        (
+            &[
+                "build",
+                "p.c",
+                "--stack",
+                "0268435456",
+                "-o",
+                "p.img",
+                "-m",
+                "x64,a,,a",
+            ],
+            r#"Build { units: ["p.c"], image: "p.img", marking: Marking { base: X64, turned: [[97], [], [97]] }, stack: 268435456 }"#,
+        ),
+        (
+            &[
+                "run",
+                "p.img",
+                "--base",
+                "18446744073709551615",
+                "--fuel",
+                "0",
+            ],
+            r#"Run { image: "p.img", base: 18446744073709551615, fuel: 0 }"#,
+        ),
+        (
+            &["exec", "p.c", "-o", "p.img"],
+            r#"Exec { units: ["p.c"], image: "p.img", marking: Marking { base: X64, turned: [] }, stack: 1048576, base: 5368709120, fuel: 100000000 }"#,
+        ),
+        (
+            &["exec", "p.c", "-m", "b5,", "-o", "p.img", "--fuel", "1"],
+            r#"Exec { units: ["p.c"], image: "p.img", marking: Marking { base: Pattern(5), turned: [[]] }, stack: 1048576, base: 5368709120, fuel: 1 }"#,
+        ),
+        (&["gen", "1"], "Gen { number: 1, size: 200 }"),
+        (
+            &["gen", "0x0fF", "--size", "0x3e8"],
+            "Gen { number: 255, size: 1000 }",
+        ),
+        (
+            &["many", "1", "-o", "q"],
+            r#"Many { number: 1, stem: "q" }"#,
+        ),
+    ] {
+        let command = read(&rt, line)?.ok_or("no command")?;
+        let text = format!(in rt.alloc(); "{command:?}")?;
+        assert_eq!(rt; text.as_str(), wanted, "{line:?}");
+    }
+    Ok(())
 }
 
 #[test]
@@ -200,7 +143,7 @@ fn no_commands(rt: HostRuntime) -> Result<(), Fail> {
         &["build", "p.c", "-o", "p.img", "-m", "b"],
         &["build", "p.c", "-o", "p.img", "-m", "b07"],
     ] {
-        assert_eq!(rt; read(&rt, line)?, None, "{line:?}");
+        assert!(rt; read(&rt, line)?.is_none(), "{line:?}");
     }
     Ok(())
 }
@@ -220,47 +163,48 @@ fn numbers(rt: HostRuntime) {
     assert!(rt; number("1 ") == None);
 }
 
-fn sides<R: Abort + AllocGlobal>(
-    rt: &R,
-    base: BaseMarking,
-    turned: &[&str],
-    wanted: &str,
-) -> Result<(), Fail> {
-    let names: [&[u8]; 5] = [b"a", b"b", b"c", b"d", b"main"];
-    let marking = marking(rt, base, turned)?;
-    let sides = sides_of(rt.alloc(), &marking, names.as_slice())?;
-    let mut letters = String::new(rt.alloc());
-    for side in &sides {
-        letters.push(if *side == Side::Ec { 'e' } else { 'x' })?;
+fn marking<R: AllocGlobal>(rt: &R, base: BaseMarking, names: &[&str]) -> Result<Marking, Fail> {
+    let mut turned = Vec::new(rt.alloc());
+    for name in names {
+        turned.push(Vec::from_slice(rt.alloc(), name.as_bytes())?)?;
     }
-    assert_eq!(rt; letters.as_str(), wanted);
-    Ok(())
+    Ok(Marking { base, turned })
 }
 
 #[test]
 fn sides_of_markings(rt: HostRuntime) -> Result<(), Fail> {
-    sides(&rt, BaseMarking::X64, &[], "xxxxx")?;
-    sides(&rt, BaseMarking::Ec, &["b"], "exeee")?;
-    sides(&rt, BaseMarking::Alternate, &[], "xexex")?;
-    sides(&rt, BaseMarking::Pattern(0), &[], "xxxxx")?;
-    sides(&rt, BaseMarking::Pattern(1), &[], "exxex")?;
-    sides(&rt, BaseMarking::Pattern(6), &[], "xeexe")?;
-    sides(
-        &rt,
-        BaseMarking::Pattern(7),
-        &["main", "a", "main"],
-        "xeeex",
-    )?;
-    let unknown = marking(&rt, BaseMarking::X64, &["a", "sub", "b", "x"])?;
-    let names: [&[u8]; 2] = [b"a", b"b"];
-    let sub = Vec::from_slice(rt.alloc(), b"sub")?;
-    assert!(rt;
-        sides_of(rt.alloc(), &unknown, names.as_slice()).err() == Some(MarkRefusal::Unknown(sub))
-    );
-    let empty = marking(&rt, BaseMarking::X64, &[""])?;
-    let none = Vec::new(rt.alloc());
-    assert!(rt;
-        sides_of(rt.alloc(), &empty, names.as_slice()).err() == Some(MarkRefusal::Unknown(none))
-    );
+    let names: [&[u8]; 5] = [b"a", b"b", b"c", b"d", b"main"];
+    for (base, turned, wanted) in [
+        (
+            BaseMarking::X64,
+            [].as_slice(),
+            "Ok([X64, X64, X64, X64, X64])",
+        ),
+        (BaseMarking::Ec, &["b"], "Ok([Ec, X64, Ec, Ec, Ec])"),
+        (BaseMarking::Alternate, &[], "Ok([X64, Ec, X64, Ec, X64])"),
+        (
+            BaseMarking::Pattern(0),
+            &[],
+            "Ok([X64, X64, X64, X64, X64])",
+        ),
+        (BaseMarking::Pattern(1), &[], "Ok([Ec, X64, X64, Ec, X64])"),
+        (BaseMarking::Pattern(6), &[], "Ok([X64, Ec, Ec, X64, Ec])"),
+        (
+            BaseMarking::Pattern(7),
+            &["main", "a", "main"],
+            "Ok([X64, Ec, Ec, Ec, X64])",
+        ),
+        (
+            BaseMarking::X64,
+            &["a", "e", "b", "x"],
+            "Err(Unknown([101]))",
+        ),
+        (BaseMarking::X64, &[""], "Err(Unknown([]))"),
+    ] {
+        let marking = marking(&rt, base, turned)?;
+        let sides = sides_of(rt.alloc(), &marking, names.as_slice());
+        let text = format!(in rt.alloc(); "{sides:?}")?;
+        assert_eq!(rt; text.as_str(), wanted, "{turned:?}");
+    }
     Ok(())
 }
