@@ -1,0 +1,151 @@
+//! What the reports of a command hold.
+
+/// Why a step of the machine is none: the first of these that holds, in this order.
+#[derive(Clone, Copy, Debug, PartialEq, Eq)]
+pub enum StuckWhy {
+    /// The program counter is in no code range and at no service.
+    NoRange,
+    /// An EC program counter that is no multiple of 4, or a stack pointer that is no multiple of 16.
+    Misaligned,
+    /// The bytes at the program counter begin with no instruction.
+    BadInstruction,
+    /// An EC instruction names a register that EC code must not use.
+    Blocked,
+    /// An access leaves the region of its address, or no region has it.
+    Unmapped,
+    /// The region lacks the right of the access.
+    Protected,
+    /// A division by zero, or a quotient that doesn't fit.
+    Divide,
+    /// An instruction that halts.
+    Halt,
+    /// Control goes to the other side by an instruction that can't take it there.
+    BadSwitch,
+    /// A function without its thunk is entered from the other side.
+    NoThunk,
+    /// A switch to an address of the wrong kind.
+    BadTarget,
+}
+
+/// How the run of a guest, or of a source, ended.
+#[derive(Clone, Copy, Debug, PartialEq, Eq)]
+pub enum Outcome {
+    /// It ended by `exit`, with this status.
+    Exit(u8),
+    /// It trapped, with this code.
+    Trap(u8),
+    /// The steps or units were spent before the end.
+    Budget,
+    /// The stack was spent.
+    StackSpent,
+    /// The machine has no step, for this reason at this program counter.
+    Stuck(StuckWhy, u64),
+}
+
+/// Which rule of the types a unit of the grammar breaks.
+#[derive(Clone, Copy, Debug, PartialEq, Eq)]
+pub enum TypeKind {
+    /// A name or a tag stands again where it may not, or otherwise than before.
+    Redeclared,
+    /// A name or a tag that the unit doesn't declare before its use.
+    Unknown,
+    /// A struct that isn't defined yet, other than behind a pointer.
+    Incomplete,
+    /// `void` other than as a result, an array of no elements, or a type that is too large.
+    BadType,
+    /// A value is wanted of what has none, as an array or `void`.
+    NotValue,
+    /// An operand that must be a place is none, or is an array.
+    NotPlace,
+    /// The address of a local or a parameter, or of a part of one.
+    NoAddress,
+    /// `*` or `->` on what is no pointer.
+    NotPointer,
+    /// `.` or `->` on what is no struct, or a field that the struct hasn't.
+    NoField,
+    /// `[ ]` on what is no array.
+    NotArray,
+    /// An operand or an index that must be an integer is none.
+    NotInteger,
+    /// A condition, or an operand of `!`, `&&` or `||`, is a struct.
+    NotScalar,
+    /// Two types differ where nothing converts, or structs are compared.
+    Mismatch,
+    /// A call of what is no function.
+    NotFunction,
+    /// Too few arguments, or too many for a function that isn't variadic.
+    ArgumentCount,
+    /// The last fixed argument isn't the number of the extra arguments.
+    VariadicCount,
+    /// A variadic function, an extra argument or a list of them that isn't as it must be.
+    Variadic,
+    /// An initial value that is no constant of the type, or too many of them.
+    BadInitial,
+    /// `break` or `continue` outside a loop, or a `return` that doesn't fit the result.
+    Flow,
+    /// An adjustor of what is no function, or of a parameter or by a number that can't be adjusted.
+    BadAdjustor,
+    /// A function or a global that is declared and never defined.
+    Undefined,
+    /// No `int main(void)` is defined.
+    NoMain,
+}
+
+/// Why a unit is refused, with its first place in the unit, in bytes.
+#[derive(Clone, Copy, Debug, PartialEq, Eq)]
+pub enum UnitRefusal {
+    /// A byte that begins no token.
+    BadByte(u32),
+    /// A number that isn't one.
+    BadNumber(u32),
+    /// A comment, character or text that doesn't end.
+    Unclosed(u32),
+    /// A directive of the preprocessor.
+    Directive(u32),
+    /// A token that the grammar hasn't there.
+    Syntax(u32),
+    /// The unit's tree is too high.
+    TooDeep,
+    /// The unit is in the grammar, and breaks this rule of the types.
+    Typing(TypeKind, u32),
+}
+
+/// What is counted against a limit.
+#[derive(Clone, Copy, Debug, PartialEq, Eq)]
+pub enum LimitKind {
+    /// The units of a command.
+    Units,
+    /// The objects of a command.
+    Objects,
+    /// The bytes of a unit.
+    UnitBytes,
+    /// The bytes of all units.
+    AllBytes,
+    /// The nodes of the program.
+    Nodes,
+    /// The functions and adjustors.
+    Functions,
+    /// The parameters of a function.
+    Parameters,
+    /// The extra arguments of a variadic call.
+    Extras,
+    /// The bytes of a struct.
+    StructBytes,
+    /// The bytes of a frame.
+    FrameBytes,
+    /// The bytes of all globals.
+    GlobalBytes,
+    /// The bytes of a name.
+    NameBytes,
+}
+
+/// Why an image isn't loaded. Want of memory is none of these.
+#[derive(Debug, PartialEq, Eq, Drop)]
+pub enum LoadRefusal {
+    /// The base isn't one at which an image may stand.
+    BadBase,
+    /// An import of this name, which the machine hasn't.
+    UnknownImport(Vec<u8>),
+    /// A place to be relocated, by its distance from the base, that isn't in one section.
+    BadRelocation(u32),
+}
