@@ -260,7 +260,7 @@ settle n e x (frame.Do s ∷ fs) = (x, frame.Do s ∷ fs)
 settle n e x (frame.Nested s d ∷ fs) = (x, frame.Nested s d ∷ fs)
 settle n e x [] = (x, [])
 
--- an `else`, which the nearest `if` takes that has none
+-- an `else`, which the nearest `if` takes that has none; the frames are those of the state
 abbrev pub attach : StmtPart → List Frame → BodyState → Said
 attach x (frame.Then s c ∷ fs) st = More (record st { focus = focus.Stmt; frames = frame.Else s c x ∷ fs })
 attach x _ st = Bad
@@ -278,7 +278,7 @@ abbrev pub ended_step : ℕ → Terminal → StmtPart → BodyState → Said
 ended_step n t x st =
     let e = settle n true x st.frames in
     let r = settle n false x st.frames in
-    cond (is_else t.sort) (attach e.0 e.1 st) (after_stmt n t r.0 r.1 st)
+    cond (is_else t.sort) (attach e.0 e.1 (record st { frames = e.1 })) (after_stmt n t r.0 r.1 (record st { frames = r.1 }))
 
 -- ---- inside a statement
 
@@ -366,9 +366,9 @@ step_at n t (focus.VaStartLast s x) st = va_start_last t.sort t.span s x st
 step_at n t (focus.VaEndName s) st = va_end_name t.sort t.span s st
 step_at n t (focus.VaClose x) st = close_step t.sort (focus.Semicolon x) st
 
--- what a body's machine says to a token
+-- what a body's machine says to a token; each answer has a focus of its own
 abbrev pub body_step : ℕ → Terminal → BodyState → Said
-body_step n t st = step_at n t st.focus st
+body_step n t st = step_at n t st.focus (record st { focus = focus.Item })
 
 -- the verdict says what was answered, and the state is the one that comes of it
 abbrev pub Says : Verdict Body → Said → BodyState → Type 0

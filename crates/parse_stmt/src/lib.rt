@@ -8,8 +8,13 @@
 //! 256 nodes on a path is given up at once, so that no deep tree exists.
 #![tactic(auto)]
 
+mod expressions;
+mod locals;
 mod parts;
 mod state;
+mod statements;
+mod step;
 
 pub use parts::{Body, Capped, DeclsPart, ExprPart, ForHead, OptionPart, StmtPart};
 pub use state::{BodyState, Focus, Frame, Header, Hole, LocalPlace, Slot, begin_body};
+pub use step::step_body;
