@@ -13,6 +13,13 @@ ghost use Rattle.parse_terms.specs.Runs.{run, Finished, Came};
 ghost use Rattle.parse_terms.specs.TypeNames.{type_name, type_step, Stops};
 ghost use Rattle.parse_terms.specs.Declarators.{IsDecl, decl_step};
 ghost use Rattle.parse_decl.specs.Ends.{CanEnd};
+ghost use Rattle.c_tree.specs.declared.declarations.Params.{Params};
+ghost use Rattle.c_lex.specs.declared.marks.Mark.TheVariants.{CloseParen};
+ghost use Rattle.parse_terms.specs.Terminals.{mark};
+ghost use Rattle.parse_terms.specs.declared.terminal.Sort.TheVariants.{Mark};
+ghost use Rattle.parse_decl.specs.declared.params.ParamsState.{ParamsState};
+ghost use Rattle.parse_decl.specs.declared.params.ParamsState.TheVariants.{Opening as ParamsOpening};
+ghost use Rattle.parse_decl.specs.Params.{IsParams, params_step};
 ghost use Rattle.parse_decl.specs.TypedDecls.{EndsDecl, IsTypedDecl, TypedRun};
 
 /// The machine of declarators reads each declarator that the grammar has, up to a token that ends
@@ -39,4 +46,16 @@ pub fn completes_declarators()
 /// a name among them.
 pub fn completes_types()
     ensures { (x : TypeState) (t : Terminal) → Stops t.sort → CanEnd TypeState TypeName type_step x t }
+{}
+
+/// The machine of parameters reads what the grammar has between `(` and `)`, and nothing else.
+pub fn reads_params()
+    ensures complete { (ps : Params) (s : Span) (a b : List Terminal) → IsParams ps a (mark CloseParen s ∷ b) → run params_step a ParamsOpening ≡ Finished ps (mark CloseParen s ∷ b) }
+    ensures sound { (ps : Params) (st : ParamsState) (t : Terminal) (m a : List Terminal) → Came params_step ParamsOpening m st (t ∷ a) → params_step t st ≡ Done ps → IsParams ps m (t ∷ a) }
+    ensures ends { (ps : Params) (st : ParamsState) (t : Terminal) → params_step t st ≡ Done ps → t.sort ≡ Mark CloseParen }
+{}
+
+/// Whatever the machine of parameters holds can be brought to its end before each `)`.
+pub fn completes_params()
+    ensures { (st : ParamsState) (s : Span) → CanEnd ParamsState Params params_step st (mark CloseParen s) }
 {}

@@ -2,7 +2,10 @@
 #![tactic(auto)]
 
 mod laws;
+mod params;
 
 pub use laws::{
-    completes_declarators, completes_types, reads_declarators, reads_typed_declarators,
+    completes_declarators, completes_params, completes_types, reads_declarators, reads_params,
+    reads_typed_declarators,
 };
+pub use params::{ParamsState, has_all_names, step_params};
