@@ -1,4 +1,4 @@
-ghost use Rattle.std.specs.Prelude.{◌≡◌, [], ◌∷◌, List};
+ghost use Rattle.std.specs.Prelude.{◌≡◌, ◌≤◌, ℕ, [], ◌∷◌, List};
 ghost use Rattle.c_types.specs.declared.types.Span.{Span};
 ghost use Rattle.c_tree.specs.declared.expressions.Base.{Base};
 ghost use Rattle.c_tree.specs.declared.expressions.TypeName.{TypeName};
@@ -20,6 +20,10 @@ ghost use Rattle.parse_terms.specs.declared.terminal.Sort.TheVariants.{Mark};
 ghost use Rattle.parse_decl.specs.declared.params.ParamsState.{ParamsState};
 ghost use Rattle.parse_decl.specs.declared.params.ParamsState.TheVariants.{Opening as ParamsOpening};
 ghost use Rattle.parse_decl.specs.Params.{IsParams, params_step};
+ghost use Rattle.c_tree.specs.declared.declarations.Init.{Init};
+ghost use Rattle.parse_decl.specs.declared.inits.InitPart.{InitPart};
+ghost use Rattle.parse_decl.specs.declared.inits.InitState.{InitState};
+ghost use Rattle.parse_decl.specs.Inits.{IsInit, cap_init, init_start, init_step, EndsInit, IsInitRead};
 ghost use Rattle.parse_decl.specs.TypedDecls.{EndsDecl, IsTypedDecl, TypedRun};
 
 /// The machine of declarators reads each declarator that the grammar has, up to a token that ends
@@ -58,4 +62,17 @@ pub fn reads_params()
 /// Whatever the machine of parameters holds can be brought to its end before each `)`.
 pub fn completes_params()
     ensures { (st : ParamsState) (s : Span) → CanEnd ParamsState Params params_step st (mark CloseParen s) }
+{}
+
+/// The machine of initial values reads each value that the grammar has, up to a token that is no part
+/// of it, and nothing else.
+pub fn reads_inits()
+    ensures complete { (n : ℕ) → 1 ≤ n → (i : Init) (t : Terminal) (a b : List Terminal) → IsInit i a (t ∷ b) → EndsInit t.sort → run (init_step n) a init_start ≡ Finished (cap_init n i) (t ∷ b) }
+    ensures sound { (n : ℕ) → 1 ≤ n → (st : InitState) (p : InitPart) (t : Terminal) (z a : List Terminal) → Came (init_step n) init_start z st (t ∷ a) → init_step n t st ≡ Done p → IsInitRead n p z (t ∷ a) }
+{}
+
+/// Whatever the machine of initial values holds can be brought to its end before each token that is no
+/// part of a value.
+pub fn completes_inits()
+    ensures { (n : ℕ) (st : InitState) (t : Terminal) → EndsInit t.sort → CanEnd InitState InitPart (init_step n) st t }
 {}

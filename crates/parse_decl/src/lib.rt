@@ -7,7 +7,7 @@ mod params;
 
 pub use inits::{Address, InitFocus, InitFrame, InitPart, InitParts, InitState, step_init};
 pub use laws::{
-    completes_declarators, completes_params, completes_types, reads_declarators, reads_params,
-    reads_typed_declarators,
+    completes_declarators, completes_inits, completes_params, completes_types, reads_declarators,
+    reads_inits, reads_params, reads_typed_declarators,
 };
 pub use params::{ParamsState, has_all_names, step_params};
