@@ -1,6 +1,6 @@
 -- What a token does to a function's body that is being read. The first argument is the cap on heights.
 -- That this reads the statements of the grammar, and those alone, is proved of it (crate `stmt_laws`).
-use Rattle.std.specs.Prelude.{◌≡◌, ℕ, Bool, true, false, cond, List, [], ◌∷◌, Option, Some, None}
+use Rattle.std.specs.Prelude.{◌≡◌, ℕ, Bool, true, false, cond, List, [], ◌∷◌}
 use Rattle.c_types.specs.declared.types.Span.{Span}
 use Rattle.c_tree.specs.declared.expressions.Name.{Name}
 use Rattle.c_tree.specs.declared.expressions.Base.{Base}

@@ -1,6 +1,6 @@
 -- Trees of statements that are given up once they are too high. A part is a tree with its height, or
 -- no longer there.
-use Rattle.std.specs.Prelude.{◌≡◌, ℕ, ◌+◌, max, cond, List, [], ◌∷◌, ◌++◌, map, Option, Some, None, nat_lt, nat_le}
+use Rattle.std.specs.Prelude.{ℕ, ◌+◌, max, cond, List, [], ◌∷◌, ◌++◌, map, Option, Some, None, nat_lt, nat_le}
 use Rattle.c_types.specs.declared.types.Span.{Span}
 use Rattle.c_tree.specs.declared.expressions.Name.{Name}
 use Rattle.c_tree.specs.declared.expressions.Base.{Base}

@@ -110,7 +110,10 @@ pub fn with_slot_close(
     ensures { IfOk result (λ r. Says r (slot_close slot part state.old) state.new) }
 {
     match slot {
-        Slot::Step(at, start, test) => go_under(Frame::For(at, make_head(start, test, part)), state),
+        Slot::Step(at, start, test) => go_under(
+            Frame::For(at, make_head(start, test, part)),
+            state,
+        ),
         _other => Ok(Verdict::Bad),
     }
 }

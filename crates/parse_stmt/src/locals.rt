@@ -80,7 +80,15 @@ pub fn with_type(
         Answer::More(so_far) => Ok(go(Focus::Typing(place, so_far), state)),
         Answer::Done(ty) => {
             let stars = DeclState::Stars(ty.stars);
-            with_decl(alloc, token, place, ty.base, empty_decls(alloc), stars, state)
+            with_decl(
+                alloc,
+                token,
+                place,
+                ty.base,
+                empty_decls(alloc),
+                stars,
+                state,
+            )
         }
         Answer::Bad => Ok(Verdict::Bad),
     }

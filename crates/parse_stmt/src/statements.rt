@@ -81,10 +81,7 @@ fn with_end(alloc: Global, state: &mut BodyState) -> Result<Verdict<Body>, Alloc
     ensures { IfOk result (λ r. Says r (end_block 256 state.old.frames state.old) state.new) }
 {
     match state.frames.pop() {
-        None => Ok(Verdict::Done(mem::replace(
-            &mut state.done,
-            empty_items(alloc),
-        ))),
+        None => Ok(Verdict::Done(mem::replace(&mut state.done, empty_items(alloc)))),
         Some(Frame::Nested(at, before)) => {
             let items = mem::replace(&mut state.done, before);
             let x = make_block(alloc, at, items)?;

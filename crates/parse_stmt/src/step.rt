@@ -1,7 +1,9 @@
 ghost use Rattle.std.specs.Prelude.{IfOk};
 ghost use Rattle.parse_stmt.specs.StmtMachine.{Says, opened, paren_step, semicolon_step, close_step, comma_step, va_start_name, va_start_last, va_end_name, optional_name, optional_word, optional_mark, optional_step, body_step};
 
-use crate::expressions::{begin_hole, go, with_expr, with_first, with_slot_close, with_slot_semicolon};
+use crate::expressions::{
+    begin_hole, go, with_expr, with_first, with_slot_close, with_slot_semicolon,
+};
 use crate::locals::{
     begins_type, with_bare, with_decl, with_first_word, with_type, with_va_list_end,
     with_va_list_name,
