@@ -1,5 +1,5 @@
 -- What is done with capped parts is what is done with trees, capped.
-use Rattle.std.proofs.Common.{◌≡◌, ℕ, suc, ◌+◌, ◌<◌, ◌≤◌, max, Bool, true, false, cond, List, [], ◌∷◌, ◌++◌, map, Option, Some, None, nat_le, refl, sym, ap, ◌∙◌, arith}
+use Rattle.std.proofs.Common.{◌≡◌, ℕ, suc, ◌+◌, ◌<◌, ◌≤◌, max, Bool, true, false, cond, List, [], ◌∷◌, ◌++◌, Option, Some, None, nat_le, refl, sym, ap, ◌∙◌, arith}
 use Rattle.std.proofs.lemmas.Bool.{le-leb, lt-leb, leb-true, leb-false}
 use Rattle.c_types.specs.declared.types.Span.{Span}
 use Rattle.c_tree.specs.declared.expressions.Name.{Name}
@@ -14,7 +14,7 @@ use Rattle.c_tree.specs.declared.statements.BlockItem.{BlockItem}
 use Rattle.c_tree.specs.declared.statements.BlockItem.TheVariants as block_item
 use Rattle.c_tree.specs.declared.statements.Stmt.{Stmt}
 use Rattle.c_tree.specs.declared.statements.Stmt.TheVariants as stmt
-use Rattle.c_tree.specs.Height.{tallest, expr_height, optional_height, local_decl_height, start_height, block_item_height, stmt_height}
+use Rattle.c_tree.specs.Height.{expr_height, optional_height, local_decl_height, start_height, block_item_height, stmt_height}
 use Rattle.c_tree.proofs.HeightLaws.{block_item_height-Local, block_item_height-Stmt, stmt_height-Block, stmt_height-Effect, stmt_height-If, stmt_height-IfElse, stmt_height-While, stmt_height-Do, stmt_height-For, stmt_height-Return}
 use Rattle.c_tree.proofs.Tallest.{tallest-append}
 use Rattle.parse_expr.specs.declared.parts.Part.TheVariants as part
@@ -24,7 +24,7 @@ use Rattle.parse_stmt.specs.declared.parts.Capped.{Capped}
 use Rattle.parse_stmt.specs.declared.parts.Capped.TheVariants.{Built, Deep}
 use Rattle.parse_stmt.specs.declared.parts.ForHead.{ForHead}
 use Rattle.parse_stmt.specs.StmtGrammar.{local_decl}
-use Rattle.parse_stmt.specs.StmtParts.{ExprPart, OptionPart, DeclsPart, StmtPart, Body, capped, decls_height, items_height, cap_body, mapped, merged, raised, at_least_one, leaf_part, of_part, no_items, no_decls, no_part, some_part, with_decl, with_stmt, with_locals, with_va_list, start_locals, start_of, start_part, pair_of, head_of, for_head, block_part, effect_part, return_part, if_part, if_else_part, while_part, do_part, for_part}
+use Rattle.parse_stmt.specs.StmtParts.{ExprPart, OptionPart, DeclsPart, StmtPart, capped, decls_height, items_height, cap_body, mapped, merged, raised, at_least_one, leaf_part, of_part, no_items, no_decls, no_part, some_part, with_decl, with_stmt, with_locals, with_va_list, start_locals, start_of, start_part, pair_of, head_of, for_head, block_part, effect_part, return_part, if_part, if_else_part, while_part, do_part, for_part}
 
 -- ---- trees as parts
 

@@ -1,16 +1,12 @@
 -- What the machine holds is in the grammar.
-use Rattle.std.proofs.Common.{◌≡◌, ℕ, ◌≤◌, Bool, true, false, cond, List, [], ◌∷◌, ◌++◌, Option, Some, None, refl, sym, ap, ◌∙◌, subst}
+use Rattle.std.proofs.Common.{◌≡◌, ℕ, ◌≤◌, Bool, true, false, cond, List, [], ◌∷◌, ◌++◌, Option, Some, None, refl, ap, ◌∙◌, subst}
 use Rattle.c_types.specs.declared.types.Span.{Span}
-use Rattle.c_types.specs.declared.types.IntTy.{IntTy}
-use Rattle.c_tree.specs.declared.expressions.Name.{Name}
 use Rattle.c_tree.specs.declared.expressions.Base.{Base}
 use Rattle.c_tree.specs.declared.expressions.Base.TheVariants as base
 use Rattle.c_tree.specs.declared.expressions.TypeName.{TypeName}
 use Rattle.c_tree.specs.declared.expressions.Expr.{Expr}
-use Rattle.c_tree.specs.declared.expressions.Expr.TheVariants as expr
 use Rattle.c_tree.specs.declared.declarations.Decl.{Decl}
 use Rattle.c_tree.specs.declared.statements.LocalDecl.{LocalDecl}
-use Rattle.c_tree.specs.declared.statements.Local.{Local}
 use Rattle.c_tree.specs.declared.statements.Local.TheVariants as local
 use Rattle.c_tree.specs.declared.statements.ForStart.{ForStart}
 use Rattle.c_tree.specs.declared.statements.ForStart.TheVariants as start_tree
@@ -34,15 +30,14 @@ use Rattle.parse_terms.specs.declared.types.TypeState.TheVariants as type_state
 use Rattle.parse_terms.specs.declared.declarators.DeclState.{DeclState}
 use Rattle.parse_terms.specs.declared.declarators.DeclState.TheVariants as decl_state
 use Rattle.parse_terms.specs.Terminals.{term, word, mark, named, name_of}
-use Rattle.parse_terms.specs.TypeNames.{IsBase, void, integer, tagged, typedef, IsStars, no_stars, star, IsTypeName, type_named, type_step}
-use Rattle.parse_terms.specs.Declarators.{decl, IsDecl, declared, decl_step}
+use Rattle.parse_terms.specs.TypeNames.{IsBase, typedef, no_stars, IsTypeName, type_named, type_step}
+use Rattle.parse_terms.specs.Declarators.{IsDecl, decl_step}
 use Rattle.parse_terms.specs.Runs.{Came, begun, taken}
 use Rattle.parse_terms.proofs.TypeLaws.{TypeAt, TypeSaid, type_said as type_law}
 use Rattle.parse_decl.proofs.DeclLaws.{DeclAt, at_stars, DeclSaid, decl_said as decl_law}
 use Rattle.parse_expr.specs.declared.parts.Part.{Part}
 use Rattle.parse_expr.specs.declared.state.ExprState.{ExprState}
 use Rattle.parse_expr.specs.ExprGrammar.{is_effect, IsAssign}
-use Rattle.parse_expr.specs.Parts.{cap}
 use Rattle.parse_expr.specs.ExprMachine.{start, expr_step, IsRead}
 use Rattle.parse_expr.proofs.ExprSound.{expr_sound}
 use Rattle.parse_stmt.specs.declared.state.LocalPlace.{LocalPlace}
@@ -60,9 +55,9 @@ use Rattle.parse_stmt.specs.declared.state.Focus.TheVariants as focus
 use Rattle.parse_stmt.specs.declared.state.BodyState.{BodyState}
 use Rattle.parse_stmt.specs.declared.parts.Capped.{Capped}
 use Rattle.parse_stmt.specs.declared.parts.ForHead.{ForHead}
-use Rattle.parse_stmt.specs.StmtGrammar.{local_decl, IsLocalDecl, uninitialized, initialized, IsLocalDecls, no_decls as no_decls_read, another_decl, IsLocals, local_decls, IsVariables, variables, IsLocal, declared_local, va_list_local, IsForStart, start_local, start_effect, start_nothing, IsOptional, no_value, a_value, IsForStep, no_step, a_step, IsStmt, block_stmt, empty_stmt, effect_stmt, break_stmt, continue_stmt, if_alone, if_else, while_stmt, do_stmt, for_stmt, return_stmt, va_start_stmt, va_end_stmt, IsBlockItems, no_items as no_items_read, local_item, stmt_item}
+use Rattle.parse_stmt.specs.StmtGrammar.{local_decl, uninitialized, initialized, IsLocalDecls, no_decls as no_decls_read, another_decl, IsLocals, local_decls, variables, declared_local, va_list_local, IsForStart, start_local, start_effect, start_nothing, IsOptional, no_value, a_value, IsForStep, no_step, a_step, IsStmt, block_stmt, empty_stmt, effect_stmt, break_stmt, continue_stmt, if_alone, if_else, while_stmt, do_stmt, for_stmt, return_stmt, va_start_stmt, va_end_stmt, IsBlockItems, no_items as no_items_read, local_item, stmt_item}
 use Rattle.parse_stmt.specs.StmtParts.{decls_height, items_height, capped, leaf_part, ExprPart, OptionPart, DeclsPart, StmtPart, Body, cap_body, of_part, no_items, no_decls, no_part, some_part, with_decl, with_stmt, with_locals, with_va_list, start_locals, start_part, head_of, for_head, block_part, effect_part, return_part, if_part, if_else_part, while_part, do_part, for_part}
-use Rattle.parse_stmt.specs.StmtMachine.{state, idle, body_start, Said, slot_effect, hole_effect, end_locals, slot_close, slot_semicolon, hole_close, hole_semicolon, hole_comma, hole_step, expr_said, expr_at, feed, declared_mark, declared_step, decl_said, type_said, effect_hole, named_expr, bare_local, bare_step, is_type_word, begin_type, stmt_word, stmt_mark, stmt_step, end_block, item_word, item_mark, item_step, is_else, settle, attach, do_step, after_stmt, ended_step, opened, paren_step, semicolon_step, close_step, comma_step, va_list_name, va_list_end, va_start_name, va_start_last, va_end_name, optional_name, optional_word, optional_mark, optional_step, step_at, body_step}
+use Rattle.parse_stmt.specs.StmtMachine.{state, idle, body_start, Said, slot_effect, hole_effect, end_locals, slot_close, slot_semicolon, hole_close, hole_semicolon, hole_comma, hole_step, expr_said, expr_at, feed, declared_mark, declared_step, decl_said, type_said, effect_hole, named_expr, bare_local, bare_step, is_type_word, begin_type, stmt_word, stmt_mark, stmt_step, end_block, item_word, item_mark, item_step, settle, attach, do_step, after_stmt, ended_step, opened, paren_step, semicolon_step, close_step, comma_step, va_list_name, va_list_end, va_start_name, va_start_last, va_end_name, optional_name, optional_word, optional_mark, optional_step, body_step}
 use Rattle.stmt_laws.proofs.PartLaws.{head_height, cap_expr, cap_option, cap_decls, cap_start, cap_head, cap_stmt, of_part-cap, stmt_leaf-cap, no_items-cap, no_decls-cap, no_part-cap, some_part-cap, with_decl-cap, with_stmt-cap, with_locals-cap, with_va_list-cap, start_locals-cap, start_part-cap, for_head-cap, block_part-cap, effect_part-cap, return_part-cap, if_part-cap, if_else_part-cap, while_part-cap, do_part-cap, for_part-cap}
 use Rattle.stmt_laws.specs.Bodies.{IsBodyRead}
 
