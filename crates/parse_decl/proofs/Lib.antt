@@ -1,0 +1,5 @@
+pub mod EndLaws
+pub mod DeclLaws
+pub mod ParamsLaws
+pub mod CapLaws
+pub mod InitLaws

@@ -1,0 +1,4 @@
+pub mod Ends
+pub mod TypedDecls
+pub mod Params
+pub mod Inits

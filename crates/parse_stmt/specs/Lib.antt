@@ -1,0 +1,3 @@
+pub mod StmtGrammar
+pub mod StmtParts
+pub mod StmtMachine

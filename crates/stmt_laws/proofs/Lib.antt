@@ -1,0 +1,4 @@
+pub mod PartLaws
+pub mod StmtComplete
+pub mod StmtSound
+pub mod StmtViable
