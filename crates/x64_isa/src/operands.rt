@@ -1,7 +1,7 @@
 //! What follows an opcode: ModRM, places, and numbers.
 
 ghost use Rattle.std.specs.Prelude.{◌≡◌, ◌<◌, IfOk};
-ghost use Rattle.x64_table.specs.Reading.{Gives, number_at, near_at, far_at, imm_at as imm_at_lem, imm32_at, count_at, displacement_at, place_at, rest_at, register_operand_at, memory_operand_at, operand_at};
+ghost use Rattle.x64_isa.specs.Reading.{Gives, number_at, near_at, far_at, imm_at as imm_at_lem, imm32_at, count_at, displacement_at, place_at, rest_at, register_operand_at, memory_operand_at, operand_at};
 
 use crate::fields::{fits8, register_at, signed, signed8};
 use crate::instruction::{Operand, Place, XBad};

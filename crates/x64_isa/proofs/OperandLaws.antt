@@ -5,14 +5,14 @@ use Rattle.hx_words.specs.LittleEndian.{bytes_of}
 use Rattle.hx_words.specs.TwosComplement.{signed_of, bits_of, IsSigned}
 use Rattle.hx_words.proofs.TwosComplementLaws.{bits_of-signed_of, signed_of-bits_of, bits_of_lt, IsSigned-signed_of}
 use Rattle.reg_map.specs.declared.registers.X64Reg.{X64Reg}
-use Rattle.x64_table.specs.declared.instruction.Place.{Place}
-use Rattle.x64_table.specs.declared.instruction.Place.TheVariants.{Base, Rip}
-use Rattle.x64_table.specs.declared.instruction.Operand.{Operand}
-use Rattle.x64_table.specs.declared.instruction.Operand.TheVariants.{Register, Memory}
-use Rattle.x64_table.specs.Fields.{register_at, low, high, modrm, imm8, imm32, fits8, sib, place_high, place_mode, place_rm, place_tail, IsPlace, register_bytes, place_bytes, operand_high, operand_bytes, IsOperand}
-use Rattle.x64_table.specs.Reading.{done, unknown, byte_then, choose, followed, bind, number_at, near_at, far_at, imm_at, imm32_at, count_at, displacement_at, place_at, rest_at, register_operand_at, memory_operand_at, operand_at}
-use Rattle.x64_table.proofs.FieldLaws.{low_lt, high_lt, register_at-bits, low-register_at, high-register_at, fits8-signed_of, IsSigned-signed_of8, signed_of-bits_of8, bits_of8_lt, far-signed_of, modrm_parts, modrm_mode, modrm_reg, modrm_rm}
-use Rattle.x64_table.proofs.Readers.{ok, Live, Live-done, Live-byte, Live-first, Live-second, Live-map, Good, Good-done, Good-unknown, Good-choose, Good-byte, Good-as, Good-bind, Good-map, map_again, Below, number_live, number_good, number_again, number_joins}
+use Rattle.x64_isa.specs.declared.instruction.Place.{Place}
+use Rattle.x64_isa.specs.declared.instruction.Place.TheVariants.{Base, Rip}
+use Rattle.x64_isa.specs.declared.instruction.Operand.{Operand}
+use Rattle.x64_isa.specs.declared.instruction.Operand.TheVariants.{Register, Memory}
+use Rattle.x64_isa.specs.Fields.{register_at, low, high, modrm, imm8, imm32, fits8, sib, place_high, place_mode, place_rm, place_tail, IsPlace, register_bytes, place_bytes, operand_high, operand_bytes, IsOperand}
+use Rattle.x64_isa.specs.Reading.{done, unknown, byte_then, choose, followed, bind, number_at, near_at, far_at, imm_at, imm32_at, count_at, displacement_at, place_at, rest_at, register_operand_at, memory_operand_at, operand_at}
+use Rattle.x64_isa.proofs.FieldLaws.{low_lt, high_lt, register_at-bits, low-register_at, high-register_at, fits8-signed_of, IsSigned-signed_of8, signed_of-bits_of8, bits_of8_lt, far-signed_of, modrm_parts, modrm_mode, modrm_reg, modrm_rm}
+use Rattle.x64_isa.proofs.Readers.{ok, Live, Live-done, Live-byte, Live-first, Live-second, Live-map, Good, Good-done, Good-unknown, Good-choose, Good-byte, Good-as, Good-bind, Good-map, map_again, Below, number_live, number_good, number_again, number_joins}
 
 -- ---- signed numbers
 

@@ -5,20 +5,20 @@ use Rattle.hx_words.specs.LittleEndian.{bytes_of}
 use Rattle.hx_words.specs.TwosComplement.{IsSigned}
 use Rattle.reg_map.specs.declared.registers.X64Reg.{X64Reg}
 use Rattle.reg_map.specs.declared.registers.X64Reg.TheVariants.{Rax, Rcx, Rdx, Rbx, Rsp, Rbp, Rsi, Rdi, R8, R9, R10, R11, R12, R13, R14, R15}
-use Rattle.x64_table.specs.declared.instruction.XInstr.{XInstr}
-use Rattle.x64_table.specs.declared.instruction.XInstr.TheVariants.{MovReg, MovLoad, Mov32Reg, Mov32Load, MovStore, Mov32Store, Mov16Store, Mov8Store, Movzx8Reg, Movzx8Load, Movzx16Reg, Movzx16Load, Movsx8Reg, Movsx8Load, Movsx16Reg, Movsx16Load, Movsx32Reg, Movsx32Load, MovImm64, Lea, AddReg, OrReg, AndReg, SubReg, XorReg, CmpReg, AddImm, OrImm, AndImm, SubImm, XorImm, CmpImm, TestReg, ImulReg, NotReg, NegReg, DivReg, IdivReg, Cqo, ShlCl, ShrCl, SarCl, ShlImm, ShrImm, SarImm, Setcc, Jcc, JmpRel, CallRel, CallReg, CallMem, JmpReg, JmpMem, Push, Pop, Ret, Int3, Ud2}
-use Rattle.x64_table.specs.declared.instruction.Condition.{Condition}
-use Rattle.x64_table.specs.declared.instruction.Condition.TheVariants.{Overflow, NotOverflow, Below, AboveOrEqual, Equals, NotEquals, BelowOrEqual, Above, Sign, NotSign, LessThan, GreaterOrEqual, LessOrEqual, GreaterThan}
-use Rattle.x64_table.specs.declared.instruction.Place.{Place}
-use Rattle.x64_table.specs.declared.instruction.Operand.{Operand}
-use Rattle.x64_table.specs.declared.instruction.Operand.TheVariants.{Register, Memory}
-use Rattle.x64_table.specs.Fields.{number_of_register, number_of_condition, register_of, register_at, condition_of, is_condition, low, high, rex, modrm, imm8, imm32, imm64, fits8, place_high, IsPlace, register_bytes, place_bytes, operand_high, operand_bytes, IsOperand}
-use Rattle.x64_table.specs.Spelling.{spell_of, Valid, wide, narrow, always, rex_if_needed, arith_imm}
-use Rattle.x64_table.specs.Reading.{Read, done, unknown, byte_then, choose, followed, bind, number_at, imm_at, imm32_at, count_at, rest_at, register_operand_at, memory_operand_at, operand_at, either, register_form, memory_form, operand_form, rel_form, imm_form, count_form, imm_group_of, unary_group_of, cl_group_of, count_group_of, indirect_of, arith_of, wide_two_of, wide_group_of, wide_of, narrow_of, setcc_of, prefixed_of, rex_of, word_behind_of, word_of, two_of, first_of, read_of}
-use Rattle.x64_table.proofs.FieldLaws.{low_lt, high_lt, register_at-bits, modrm_reg, modrm_mode, modrm_rm}
-use Rattle.x64_table.proofs.Readers.{ok, map_again, number_again}
-use Rattle.x64_table.proofs.OperandLaws.{imm_bytes, imm_again, imm32_again, count_again, operand_tail, operand_mode, operand_rm, operand_parts, operand_rm_lt, place_high_lt, rest_again, register_operand_again, memory_operand_again, operand_again}
-use Rattle.x64_table.proofs.FormReaders.{wide_is, narrow_is, always_is, slash_is}
+use Rattle.x64_isa.specs.declared.instruction.XInstr.{XInstr}
+use Rattle.x64_isa.specs.declared.instruction.XInstr.TheVariants.{MovReg, MovLoad, Mov32Reg, Mov32Load, MovStore, Mov32Store, Mov16Store, Mov8Store, Movzx8Reg, Movzx8Load, Movzx16Reg, Movzx16Load, Movsx8Reg, Movsx8Load, Movsx16Reg, Movsx16Load, Movsx32Reg, Movsx32Load, MovImm64, Lea, AddReg, OrReg, AndReg, SubReg, XorReg, CmpReg, AddImm, OrImm, AndImm, SubImm, XorImm, CmpImm, TestReg, ImulReg, NotReg, NegReg, DivReg, IdivReg, Cqo, ShlCl, ShrCl, SarCl, ShlImm, ShrImm, SarImm, Setcc, Jcc, JmpRel, CallRel, CallReg, CallMem, JmpReg, JmpMem, Push, Pop, Ret, Int3, Ud2}
+use Rattle.x64_isa.specs.declared.instruction.Condition.{Condition}
+use Rattle.x64_isa.specs.declared.instruction.Condition.TheVariants.{Overflow, NotOverflow, Below, AboveOrEqual, Equals, NotEquals, BelowOrEqual, Above, Sign, NotSign, LessThan, GreaterOrEqual, LessOrEqual, GreaterThan}
+use Rattle.x64_isa.specs.declared.instruction.Place.{Place}
+use Rattle.x64_isa.specs.declared.instruction.Operand.{Operand}
+use Rattle.x64_isa.specs.declared.instruction.Operand.TheVariants.{Register, Memory}
+use Rattle.x64_isa.specs.Fields.{number_of_register, number_of_condition, register_of, register_at, condition_of, is_condition, low, high, rex, modrm, imm8, imm32, imm64, fits8, place_high, IsPlace, register_bytes, place_bytes, operand_high, operand_bytes, IsOperand}
+use Rattle.x64_isa.specs.Spelling.{spell_of, Valid, wide, narrow, always, rex_if_needed, arith_imm}
+use Rattle.x64_isa.specs.Reading.{Read, done, unknown, byte_then, choose, followed, bind, number_at, imm_at, imm32_at, count_at, rest_at, register_operand_at, memory_operand_at, operand_at, either, register_form, memory_form, operand_form, rel_form, imm_form, count_form, imm_group_of, unary_group_of, cl_group_of, count_group_of, indirect_of, arith_of, wide_two_of, wide_group_of, wide_of, narrow_of, setcc_of, prefixed_of, rex_of, word_behind_of, word_of, two_of, first_of, read_of}
+use Rattle.x64_isa.proofs.FieldLaws.{low_lt, high_lt, register_at-bits, modrm_reg, modrm_mode, modrm_rm}
+use Rattle.x64_isa.proofs.Readers.{ok, map_again, number_again}
+use Rattle.x64_isa.proofs.OperandLaws.{imm_bytes, imm_again, imm32_again, count_again, operand_tail, operand_mode, operand_rm, operand_parts, operand_rm_lt, place_high_lt, rest_again, register_operand_again, memory_operand_again, operand_again}
+use Rattle.x64_isa.proofs.FormReaders.{wide_is, narrow_is, always_is, slash_is}
 
 -- ---- forms
 

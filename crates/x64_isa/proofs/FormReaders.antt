@@ -4,18 +4,18 @@ use Rattle.std.proofs.lemmas.Bool.{eqb-true, ne_eqb, and_parts}
 use Rattle.hx_words.specs.LittleEndian.{bytes_of, AreBytes}
 use Rattle.hx_words.specs.TwosComplement.{IsSigned}
 use Rattle.reg_map.specs.declared.registers.X64Reg.{X64Reg}
-use Rattle.x64_table.specs.declared.instruction.XBad.TheVariants.{Short, Unknown}
-use Rattle.x64_table.specs.declared.instruction.XInstr.{XInstr}
-use Rattle.x64_table.specs.declared.instruction.XInstr.TheVariants.{MovReg, MovLoad, Mov32Reg, Mov32Load, MovStore, Mov32Store, Mov16Store, Mov8Store, Movzx8Reg, Movzx8Load, Movzx16Reg, Movzx16Load, Movsx8Reg, Movsx8Load, Movsx16Reg, Movsx16Load, Movsx32Reg, Movsx32Load, MovImm64, Lea, AddReg, OrReg, AndReg, SubReg, XorReg, CmpReg, AddImm, OrImm, AndImm, SubImm, XorImm, CmpImm, TestReg, ImulReg, NotReg, NegReg, DivReg, IdivReg, Cqo, ShlCl, ShrCl, SarCl, ShlImm, ShrImm, SarImm, Setcc, Jcc, JmpRel, CallRel, CallReg, CallMem, JmpReg, JmpMem, Push, Pop, Ret, Int3, Ud2}
-use Rattle.x64_table.specs.declared.instruction.Place.{Place}
-use Rattle.x64_table.specs.declared.instruction.Operand.{Operand}
-use Rattle.x64_table.specs.declared.instruction.Operand.TheVariants.{Register, Memory}
-use Rattle.x64_table.specs.Fields.{number_of_register, register_at, condition_of, is_condition, low, high, rex, modrm, imm8, imm32, fits8, place_high, IsPlace, register_bytes, place_bytes, operand_high, operand_bytes, IsOperand}
-use Rattle.x64_table.specs.Spelling.{spell_of, Valid, wide, narrow, always, rex_if_needed, arith_imm}
-use Rattle.x64_table.specs.Reading.{Read, done, unknown, byte_then, choose, bind, number_at, imm_at, imm32_at, count_at, rest_at, register_operand_at, memory_operand_at, operand_at, either, register_form, memory_form, operand_form, rel_form, imm_form, count_form, imm_group_of, unary_group_of, cl_group_of, count_group_of, indirect_of, arith_of, wide_two_of, wide_group_of, wide_of, narrow_of, setcc_of, prefixed_of, rex_of, word_behind_of, word_of, two_of, first_of, read_of}
-use Rattle.x64_table.proofs.FieldLaws.{low-register_at, high-register_at, rex_parts, number-condition_of}
-use Rattle.x64_table.proofs.Readers.{ok, short, Live, Live-done, Live-byte, Live-first, Live-second, Live-map, Good, Good-done, Good-unknown, Good-choose, Good-at, Good-byte, Good-bind, Good-map, Joined, Below, number_good}
-use Rattle.x64_table.proofs.OperandLaws.{IsImm, imm_bytes, imm_good, imm_live, imm32_good, IsCount, count_good, count_live, IsRest, operand_tail, operand_is, rest_good, rest_live, IsRegisterOperand, register_spelled, register_operand_good, register_operand_live, register_operand_reads, IsMemoryOperand, memory_spelled, memory_operand_good, memory_operand_live, IsAnyOperand, any_spelled, operand_good, operand_live}
+use Rattle.x64_isa.specs.declared.instruction.XBad.TheVariants.{Short, Unknown}
+use Rattle.x64_isa.specs.declared.instruction.XInstr.{XInstr}
+use Rattle.x64_isa.specs.declared.instruction.XInstr.TheVariants.{MovReg, MovLoad, Mov32Reg, Mov32Load, MovStore, Mov32Store, Mov16Store, Mov8Store, Movzx8Reg, Movzx8Load, Movzx16Reg, Movzx16Load, Movsx8Reg, Movsx8Load, Movsx16Reg, Movsx16Load, Movsx32Reg, Movsx32Load, MovImm64, Lea, AddReg, OrReg, AndReg, SubReg, XorReg, CmpReg, AddImm, OrImm, AndImm, SubImm, XorImm, CmpImm, TestReg, ImulReg, NotReg, NegReg, DivReg, IdivReg, Cqo, ShlCl, ShrCl, SarCl, ShlImm, ShrImm, SarImm, Setcc, Jcc, JmpRel, CallRel, CallReg, CallMem, JmpReg, JmpMem, Push, Pop, Ret, Int3, Ud2}
+use Rattle.x64_isa.specs.declared.instruction.Place.{Place}
+use Rattle.x64_isa.specs.declared.instruction.Operand.{Operand}
+use Rattle.x64_isa.specs.declared.instruction.Operand.TheVariants.{Register, Memory}
+use Rattle.x64_isa.specs.Fields.{number_of_register, register_at, condition_of, is_condition, low, high, rex, modrm, imm8, imm32, fits8, place_high, IsPlace, register_bytes, place_bytes, operand_high, operand_bytes, IsOperand}
+use Rattle.x64_isa.specs.Spelling.{spell_of, Valid, wide, narrow, always, rex_if_needed, arith_imm}
+use Rattle.x64_isa.specs.Reading.{Read, done, unknown, byte_then, choose, bind, number_at, imm_at, imm32_at, count_at, rest_at, register_operand_at, memory_operand_at, operand_at, either, register_form, memory_form, operand_form, rel_form, imm_form, count_form, imm_group_of, unary_group_of, cl_group_of, count_group_of, indirect_of, arith_of, wide_two_of, wide_group_of, wide_of, narrow_of, setcc_of, prefixed_of, rex_of, word_behind_of, word_of, two_of, first_of, read_of}
+use Rattle.x64_isa.proofs.FieldLaws.{low-register_at, high-register_at, rex_parts, number-condition_of}
+use Rattle.x64_isa.proofs.Readers.{ok, short, Live, Live-done, Live-byte, Live-first, Live-second, Live-map, Good, Good-done, Good-unknown, Good-choose, Good-at, Good-byte, Good-bind, Good-map, Joined, Below, number_good}
+use Rattle.x64_isa.proofs.OperandLaws.{IsImm, imm_bytes, imm_good, imm_live, imm32_good, IsCount, count_good, count_live, IsRest, operand_tail, operand_is, rest_good, rest_live, IsRegisterOperand, register_spelled, register_operand_good, register_operand_live, register_operand_reads, IsMemoryOperand, memory_spelled, memory_operand_good, memory_operand_live, IsAnyOperand, any_spelled, operand_good, operand_live}
 
 -- a reader of instructions whose spellings begin with the front
 abbrev pub Reads : List ℕ → Read XInstr → Type 0
