@@ -51,9 +51,9 @@ static FAULTS: [(&[u8], [u64; 3], XFault); 13] = [
 
 #[test]
 fn faults_change_nothing(rt: HostRuntime) -> Result<(), Fail> {
-    for (bytes, [rax, rcx, rdx], fault) in &FAULTS {
+    for (bytes, registers, fault) in &FAULTS {
         let mut mem = memory(rt.alloc(), 77)?;
-        let mut cpu = cpu_of(*rax, *rcx, *rdx);
+        let mut cpu = cpu_of(registers[0], registers[1], registers[2]);
         let before = cpu;
         let (i, n) = read(bytes).ok_or("bytes outside the table")?;
         let event = step(&mut cpu, &mut mem, &i, n);
