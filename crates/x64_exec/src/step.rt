@@ -27,148 +27,89 @@ pub fn step(cpu: &mut Cpu, mem: &mut Memory, i: &XInstr, len: u64) -> XEvent
     ensures { record { cpu = registers_of cpu.new; mem = mem.new; event = result }
         ≡ effect_of i.now len (registers_of cpu.old) mem.old }
 {
+    macro_rules! value {
+        ($r:expr) => { cpu.get64($r) };
+    }
+    macro_rules! at {
+        ($m:expr) => { place(cpu, len, $m) };
+    }
+    macro_rules! gives {
+        ($r:expr, $v:expr) => { give(cpu, len, $r, $v) };
+    }
+    macro_rules! gives_flagged {
+        ($r:expr, $v:expr) => { give_flagged(cpu, len, $r, $v) };
+    }
+    macro_rules! shifts {
+        ($way:ident, $q:expr, $n:expr) => { give_shifted(cpu, len, Shift::$way, $q, $n) };
+    }
+    macro_rules! divides {
+        ($divide:ident, $q:expr) => {
+            give_division(cpu, len, $divide(value!(X64Reg::Rdx), value!(X64Reg::Rax), value!($q)))
+        };
+    }
+    macro_rules! loads {
+        ($load:ident, $r:expr, $m:expr, $w:ident) => { $load(cpu, mem, len, $r, at!($m), Width::$w) };
+    }
+    macro_rules! stores {
+        ($m:expr, $r:expr, $w:ident) => { store(cpu, mem, len, at!($m), Width::$w, value!($r)) };
+    }
     match *i {
-        XInstr::MovReg { r, q } => give(cpu, len, r, cpu.get64(q)),
-        XInstr::MovLoad { r, m } => load(cpu, mem, len, r, place(cpu, len, m), Width::W64),
-        XInstr::Mov32Reg { r, q } => give(cpu, len, r, truncate(cpu.get64(q), Width::W32)),
-        XInstr::Mov32Load { r, m } => load(cpu, mem, len, r, place(cpu, len, m), Width::W32),
-        XInstr::MovStore { m, r } => store(
-            cpu,
-            mem,
-            len,
-            place(cpu, len, m),
-            Width::W64,
-            cpu.get64(r),
-        ),
-        XInstr::Mov32Store { m, r } => store(
-            cpu,
-            mem,
-            len,
-            place(cpu, len, m),
-            Width::W32,
-            cpu.get64(r),
-        ),
-        XInstr::Mov16Store { m, r } => store(
-            cpu,
-            mem,
-            len,
-            place(cpu, len, m),
-            Width::W16,
-            cpu.get64(r),
-        ),
-        XInstr::Mov8Store { m, r } => store(
-            cpu,
-            mem,
-            len,
-            place(cpu, len, m),
-            Width::W8,
-            cpu.get64(r),
-        ),
-        XInstr::Movzx8Reg { r, q } => give(cpu, len, r, truncate(cpu.get64(q), Width::W8)),
-        XInstr::Movzx8Load { r, m } => load(cpu, mem, len, r, place(cpu, len, m), Width::W8),
-        XInstr::Movzx16Reg { r, q } => give(cpu, len, r, truncate(cpu.get64(q), Width::W16)),
-        XInstr::Movzx16Load { r, m } => load(cpu, mem, len, r, place(cpu, len, m), Width::W16),
-        XInstr::Movsx8Reg { r, q } => give(cpu, len, r, sign_extend(cpu.get64(q), Width::W8)),
-        XInstr::Movsx8Load { r, m } => load_signed(cpu, mem, len, r, place(cpu, len, m), Width::W8),
-        XInstr::Movsx16Reg { r, q } => give(cpu, len, r, sign_extend(cpu.get64(q), Width::W16)),
-        XInstr::Movsx16Load { r, m } => load_signed(
-            cpu,
-            mem,
-            len,
-            r,
-            place(cpu, len, m),
-            Width::W16,
-        ),
-        XInstr::Movsx32Reg { r, q } => give(cpu, len, r, sign_extend(cpu.get64(q), Width::W32)),
-        XInstr::Movsx32Load { r, m } => load_signed(
-            cpu,
-            mem,
-            len,
-            r,
-            place(cpu, len, m),
-            Width::W32,
-        ),
-        XInstr::MovImm64 { r, imm } => give(cpu, len, r, imm),
-        XInstr::Lea { r, m } => give(cpu, len, r, place(cpu, len, m)),
-        XInstr::AddReg { q, r } => give_flagged(cpu, len, q, add(cpu.get64(q), cpu.get64(r))),
-        XInstr::OrReg { q, r } => give_flagged(cpu, len, q, bitwise(cpu.get64(q) | cpu.get64(r))),
-        XInstr::AndReg { q, r } => give_flagged(cpu, len, q, bitwise(cpu.get64(q) & cpu.get64(r))),
-        XInstr::SubReg { q, r } => give_flagged(cpu, len, q, subtract(cpu.get64(q), cpu.get64(r))),
-        XInstr::XorReg { q, r } => give_flagged(cpu, len, q, bitwise(cpu.get64(q) ^ cpu.get64(r))),
-        XInstr::CmpReg { q, r } => give_flags(cpu, len, subtract(cpu.get64(q), cpu.get64(r)).flags),
-        XInstr::AddImm { q, imm } => give_flagged(cpu, len, q, add(cpu.get64(q), extended(imm))),
-        XInstr::OrImm { q, imm } => give_flagged(
-            cpu,
-            len,
-            q,
-            bitwise(cpu.get64(q) | extended(imm)),
-        ),
-        XInstr::AndImm { q, imm } => give_flagged(
-            cpu,
-            len,
-            q,
-            bitwise(cpu.get64(q) & extended(imm)),
-        ),
-        XInstr::SubImm { q, imm } => give_flagged(
-            cpu,
-            len,
-            q,
-            subtract(cpu.get64(q), extended(imm)),
-        ),
-        XInstr::XorImm { q, imm } => give_flagged(
-            cpu,
-            len,
-            q,
-            bitwise(cpu.get64(q) ^ extended(imm)),
-        ),
-        XInstr::CmpImm { q, imm } => give_flags(
-            cpu,
-            len,
-            subtract(cpu.get64(q), extended(imm)).flags,
-        ),
-        XInstr::TestReg { q, r } => give_flags(
-            cpu,
-            len,
-            bitwise(cpu.get64(q) & cpu.get64(r)).flags,
-        ),
-        XInstr::ImulReg { r, q } => give_flagged(cpu, len, r, multiply(cpu.get64(r), cpu.get64(q))),
-        XInstr::NotReg { q } => give(cpu, len, q, complement(cpu.get64(q))),
-        XInstr::NegReg { q } => give_flagged(cpu, len, q, subtract(0, cpu.get64(q))),
-        XInstr::DivReg { q } => give_division(
-            cpu,
-            len,
-            divide(cpu.get64(X64Reg::Rdx), cpu.get64(X64Reg::Rax), cpu.get64(q)),
-        ),
-        XInstr::IdivReg { q } => give_division(
-            cpu,
-            len,
-            divide_signed(cpu.get64(X64Reg::Rdx), cpu.get64(X64Reg::Rax), cpu.get64(q)),
-        ),
-        XInstr::Cqo => give(cpu, len, X64Reg::Rdx, signs(cpu.get64(X64Reg::Rax))),
-        XInstr::ShlCl { q } => give_shifted(cpu, len, Shift::Left, q, cpu.get64(X64Reg::Rcx) % 64),
-        XInstr::ShrCl { q } => give_shifted(cpu, len, Shift::Right, q, cpu.get64(X64Reg::Rcx) % 64),
-        XInstr::SarCl { q } => give_shifted(
-            cpu,
-            len,
-            Shift::RightSigned,
-            q,
-            cpu.get64(X64Reg::Rcx) % 64,
-        ),
-        XInstr::ShlImm { q, imm } => give_shifted(cpu, len, Shift::Left, q, imm as u64),
-        XInstr::ShrImm { q, imm } => give_shifted(cpu, len, Shift::Right, q, imm as u64),
-        XInstr::SarImm { q, imm } => give_shifted(cpu, len, Shift::RightSigned, q, imm as u64),
-        XInstr::Setcc { c, q } => give(cpu, len, q, with_truth(cpu.get64(q), holds(c, cpu.xf))),
+        XInstr::MovReg { r, q } => gives!(r, value!(q)),
+        XInstr::MovLoad { r, m } => loads!(load, r, m, W64),
+        XInstr::Mov32Reg { r, q } => gives!(r, truncate(value!(q), Width::W32)),
+        XInstr::Mov32Load { r, m } => loads!(load, r, m, W32),
+        XInstr::MovStore { m, r } => stores!(m, r, W64),
+        XInstr::Mov32Store { m, r } => stores!(m, r, W32),
+        XInstr::Mov16Store { m, r } => stores!(m, r, W16),
+        XInstr::Mov8Store { m, r } => stores!(m, r, W8),
+        XInstr::Movzx8Reg { r, q } => gives!(r, truncate(value!(q), Width::W8)),
+        XInstr::Movzx8Load { r, m } => loads!(load, r, m, W8),
+        XInstr::Movzx16Reg { r, q } => gives!(r, truncate(value!(q), Width::W16)),
+        XInstr::Movzx16Load { r, m } => loads!(load, r, m, W16),
+        XInstr::Movsx8Reg { r, q } => gives!(r, sign_extend(value!(q), Width::W8)),
+        XInstr::Movsx8Load { r, m } => loads!(load_signed, r, m, W8),
+        XInstr::Movsx16Reg { r, q } => gives!(r, sign_extend(value!(q), Width::W16)),
+        XInstr::Movsx16Load { r, m } => loads!(load_signed, r, m, W16),
+        XInstr::Movsx32Reg { r, q } => gives!(r, sign_extend(value!(q), Width::W32)),
+        XInstr::Movsx32Load { r, m } => loads!(load_signed, r, m, W32),
+        XInstr::MovImm64 { r, imm } => gives!(r, imm),
+        XInstr::Lea { r, m } => gives!(r, at!(m)),
+        XInstr::AddReg { q, r } => gives_flagged!(q, add(value!(q), value!(r))),
+        XInstr::OrReg { q, r } => gives_flagged!(q, bitwise(value!(q) | value!(r))),
+        XInstr::AndReg { q, r } => gives_flagged!(q, bitwise(value!(q) & value!(r))),
+        XInstr::SubReg { q, r } => gives_flagged!(q, subtract(value!(q), value!(r))),
+        XInstr::XorReg { q, r } => gives_flagged!(q, bitwise(value!(q) ^ value!(r))),
+        XInstr::CmpReg { q, r } => give_flags(cpu, len, subtract(value!(q), value!(r)).flags),
+        XInstr::AddImm { q, imm } => gives_flagged!(q, add(value!(q), extended(imm))),
+        XInstr::OrImm { q, imm } => gives_flagged!(q, bitwise(value!(q) | extended(imm))),
+        XInstr::AndImm { q, imm } => gives_flagged!(q, bitwise(value!(q) & extended(imm))),
+        XInstr::SubImm { q, imm } => gives_flagged!(q, subtract(value!(q), extended(imm))),
+        XInstr::XorImm { q, imm } => gives_flagged!(q, bitwise(value!(q) ^ extended(imm))),
+        XInstr::CmpImm { q, imm } => give_flags(cpu, len, subtract(value!(q), extended(imm)).flags),
+        XInstr::TestReg { q, r } => give_flags(cpu, len, bitwise(value!(q) & value!(r)).flags),
+        XInstr::ImulReg { r, q } => gives_flagged!(r, multiply(value!(r), value!(q))),
+        XInstr::NotReg { q } => gives!(q, complement(value!(q))),
+        XInstr::NegReg { q } => gives_flagged!(q, subtract(0, value!(q))),
+        XInstr::DivReg { q } => divides!(divide, q),
+        XInstr::IdivReg { q } => divides!(divide_signed, q),
+        XInstr::Cqo => gives!(X64Reg::Rdx, signs(value!(X64Reg::Rax))),
+        XInstr::ShlCl { q } => shifts!(Left, q, value!(X64Reg::Rcx) % 64),
+        XInstr::ShrCl { q } => shifts!(Right, q, value!(X64Reg::Rcx) % 64),
+        XInstr::SarCl { q } => shifts!(RightSigned, q, value!(X64Reg::Rcx) % 64),
+        XInstr::ShlImm { q, imm } => shifts!(Left, q, imm as u64),
+        XInstr::ShrImm { q, imm } => shifts!(Right, q, imm as u64),
+        XInstr::SarImm { q, imm } => shifts!(RightSigned, q, imm as u64),
+        XInstr::Setcc { c, q } => gives!(q, with_truth(value!(q), holds(c, cpu.xf))),
         XInstr::Jcc { c, rel } => branch(cpu, len, holds(c, cpu.xf), target(cpu, len, rel)),
         XInstr::JmpRel { rel } => go(cpu, target(cpu, len, rel)),
         XInstr::CallRel { rel } => call(cpu, mem, len, target(cpu, len, rel)),
-        XInstr::CallReg { q } => call(cpu, mem, len, cpu.get64(q)),
-        XInstr::CallMem { m } => call_at(cpu, mem, len, place(cpu, len, m)),
-        XInstr::JmpReg { q } => go(cpu, cpu.get64(q)),
-        XInstr::JmpMem { m } => go_at(cpu, mem, place(cpu, len, m)),
-        XInstr::Push { r } => push(cpu, mem, len, cpu.get64(r)),
+        XInstr::CallReg { q } => call(cpu, mem, len, value!(q)),
+        XInstr::CallMem { m } => call_at(cpu, mem, len, at!(m)),
+        XInstr::JmpReg { q } => go(cpu, value!(q)),
+        XInstr::JmpMem { m } => go_at(cpu, mem, at!(m)),
+        XInstr::Push { r } => push(cpu, mem, len, value!(r)),
         XInstr::Pop { r } => pop(cpu, mem, len, r),
         XInstr::Ret => return_back(cpu, mem),
-        XInstr::Int3 => XEvent::Fault(XFault::Halt),
-        XInstr::Ud2 => XEvent::Fault(XFault::Halt),
+        XInstr::Int3 | XInstr::Ud2 => XEvent::Fault(XFault::Halt),
     }
 }
