@@ -1,7 +1,7 @@
 #!/usr/bin/env python3
 """Spellings of x64 instructions by GNU as, as the rows of a test table.
 
-  x64_vectors.py              prints the rows of crates/x64_table/src/spellings.rt
+  x64_vectors.py              prints the rows of crates/x64_isa/src/spellings.rt
   x64_vectors.py --random N   prints a table of N random instructions instead
   x64_vectors.py --check      tells whether spellings.rt is what the assembler gives now
 
@@ -222,7 +222,7 @@ def main():
         return 0
     made = table(rows_of(Ends()))
     if "--check" in sys.argv:
-        path = os.path.join(os.path.dirname(__file__), "..", "crates", "x64_table", "src", "spellings.rt")
+        path = os.path.join(os.path.dirname(__file__), "..", "crates", "x64_isa", "src", "spellings.rt")
         squeeze = lambda s: re.sub(r"[\s,]+", "", re.sub(r"//.*", "", s))
         same = squeeze(open(path).read()) == squeeze(made)
         print("the table is the assembler's" if same else "the table differs")

@@ -7,8 +7,8 @@ use Rattle.std.proofs.lemmas.List.{append-nil}
 use Rattle.reg_map.specs.declared.registers.X64Reg.TheVariants.{Rax, Rcx, Rsp}
 use Rattle.x64_isa.specs.declared.instruction.XInstr.{XInstr}
 use Rattle.x64_isa.specs.declared.instruction.XInstr.TheVariants.{MovImm64, SubImm, CallReg, Ud2}
-use Rattle.x64_isa.specs.Fields.{high, number_of_register, fits8}
-use Rattle.x64_isa.specs.Spelling.{spell_of, Valid}
+use Rattle.x64_isa.specs.Fields.{high, number_of_register, fits8, register_bytes}
+use Rattle.x64_isa.specs.Spelling.{spell_of, narrow, rex_if_needed, wide, arith_imm, Valid}
 use Rattle.hx_words.specs.LittleEndian.{bytes_of}
 use Rattle.hx_words.proofs.LittleEndianLaws.{length-bytes_of}
 use Rattle.first_form.specs.FirstForm.{AreBelow}
@@ -65,11 +65,11 @@ unfolding spell_of
 mov_rax_size n = ap (λ k. suc (suc k)) (length-bytes_of 8 n)
 
 pub call_size : length (spell_of (CallReg Rax)) ≡ 2
-unfolding spell_of high number_of_register
+unfolding spell_of narrow rex_if_needed register_bytes high number_of_register
 call_size = refl
 
 pub sub_size : length (spell_of (SubImm Rsp (pos 32))) ≡ 4
-unfolding spell_of fits8 bytes_of
+unfolding spell_of arith_imm wide register_bytes fits8 bytes_of
 sub_size = refl
 
 pub end_size : length (spell_of Ud2) ≡ 2

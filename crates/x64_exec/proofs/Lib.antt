@@ -1,2 +1,2 @@
-pub mod Calls
-pub mod Moves
+pub mod Numbers
+pub mod Divisions

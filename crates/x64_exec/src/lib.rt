@@ -1,11 +1,20 @@
 //! What x64 instructions do.
 //!
 //! `step` does one instruction on the registers, the flags and a memory. `specs/Effects.antt` is the
-//! table of effects: what is new afterwards, and where control goes. `step` decides nothing that the
-//! table doesn't say.
+//! table of effects, a row for each form of `x64_isa`: what is new afterwards, and where control goes.
+//! `step` decides nothing that the table doesn't say.
 #![tactic(auto)]
 
+mod access;
+mod division;
+#[cfg(test)]
+mod effects;
 pub mod event;
+mod stack;
+mod state;
 pub mod step;
 #[cfg(test)]
 mod tests;
+mod values;
+
+pub use event::{XEvent, XFault};

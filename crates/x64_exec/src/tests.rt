@@ -1,94 +1,113 @@
-//! Effects with the values that Intel's manual gives.
+//! Faults, which change nothing, and the events of jumps.
 
+ghost use Rattle.std.specs.Prelude.{◌≡◌, IfSome, Some};
 ghost use Rattle.x64_isa.specs.Spelling.{Valid};
 
+use crate::effects::{STACK, cpu_of, memory, read};
 use crate::event::{XEvent, XFault};
 use crate::step::step;
 use hx_bits::Width;
-use hx_mem::{MemBad, Memory, Region};
-use reg_map::registers::{AFlags, Cpu, X64Reg, XFlags};
+use hx_mem::MemBad;
+use reg_map::registers::X64Reg;
 use std::test::Fail;
-use x64_isa::XInstr;
 
-const CLEAR: XFlags = XFlags {
-    cf: false,
-    zf: false,
-    sf: false,
-    of: false,
-};
+const MIN: u64 = 1 << 63;
 
-fn machine() -> Cpu {
-    Cpu {
-        x: [0; 31],
-        sp: 0x1010,
-        pc: 0x100,
-        xf: CLEAR,
-        af: AFlags {
-            n: false,
-            z: false,
-            c: false,
-            v: false,
-        },
-    }
-}
-
-/// `sub r9, imm`
-#[tactic(auto, unfolding(x64_isa::specs::Spelling::Valid))]
-fn sub(imm: i32) -> XInstr
-    ensures { Valid result }
-{
-    XInstr::SubImm { q: X64Reg::R9, imm }
-}
-
-/// `call rsp`
-#[tactic(auto, unfolding(x64_isa::specs::Spelling::Valid))]
-fn call() -> XInstr
-    ensures { Valid result }
-{
-    XInstr::CallReg { q: X64Reg::Rsp }
-}
+// The bytes, rax, rcx, rdx, and the fault.
+static FAULTS: [(&[u8], [u64; 3], XFault); 13] = [
+    // div rcx: by 0, and with a quotient of 65 bits
+    (b"\x48\xF7\xF1", [5, 0, 0], XFault::Divide),
+    (b"\x48\xF7\xF1", [0, 7, 7], XFault::Divide),
+    // idiv rcx: by 0, the least number by -1, and quotients just past both ends
+    (b"\x48\xF7\xF9", [5, 0, 0], XFault::Divide),
+    (b"\x48\xF7\xF9", [MIN, u64::MAX, u64::MAX], XFault::Divide),
+    (b"\x48\xF7\xF9", [0, u64::MAX, MIN], XFault::Divide),
+    (b"\x48\xF7\xF9", [MIN, 1, 0], XFault::Divide),
+    (b"\x48\xF7\xF9", [MIN - 1, 1, u64::MAX], XFault::Divide),
+    // mov rax, [rcx+0]; mov [rcx+0], rax; call [rcx+0]; jmp [rcx+0]
+    (
+        b"\x48\x8B\x41\x00",
+        [0, 8, 0],
+        XFault::Memory(MemBad::Unmapped(8)),
+    ),
+    (
+        b"\x48\x89\x41\x00",
+        [0, 8, 0],
+        XFault::Memory(MemBad::Unmapped(8)),
+    ),
+    (
+        b"\xFF\x51\x00",
+        [0, 8, 0],
+        XFault::Memory(MemBad::Unmapped(8)),
+    ),
+    (
+        b"\xFF\x61\x00",
+        [0, 8, 0],
+        XFault::Memory(MemBad::Unmapped(8)),
+    ),
+    (b"\xCC", [0, 0, 0], XFault::Halt),
+    (b"\x0F\x0B", [0, 0, 0], XFault::Halt),
+];
 
 #[test]
-fn subtractions(rt: HostRuntime) -> Result<(), Fail> {
-    let mut mem = Memory::new(rt.alloc());
-    for (a, imm, difference, cf, zf, sf, of) in [
-        (5u64, 3, 2u64, false, false, false, false),
-        (3, 3, 0, false, true, false, false),
-        (3, 5, u64::MAX - 1, true, false, true, false),
-        (1 << 63, 1, (1 << 63) - 1, false, false, false, true),
-        ((1 << 63) - 1, -1, 1 << 63, true, false, true, true),
-        (0, -128, 128, true, false, false, false),
-    ] {
-        let mut cpu = machine();
-        cpu.set64(X64Reg::R9, a);
-        assert_eq!(rt; step(&mut cpu, &mut mem, &sub(imm), 4), XEvent::Next);
-        assert_eq!(rt; cpu.get64(X64Reg::R9), difference, "{a} - {imm}");
-        assert_eq!(rt; cpu.xf, XFlags { cf, zf, sf, of }, "{a} - {imm}");
-        assert_eq!(rt; cpu.pc, 0x104);
+fn faults_change_nothing(rt: HostRuntime) -> Result<(), Fail> {
+    for (bytes, registers, fault) in &FAULTS {
+        let mut mem = memory(rt.alloc(), 77)?;
+        let mut cpu = cpu_of(registers[0], registers[1], registers[2]);
+        let before = cpu;
+        let (i, n) = read(bytes).ok_or("bytes outside the table")?;
+        let event = step(&mut cpu, &mut mem, &i, n);
+        assert!(rt;
+            event == XEvent::Fault(*fault) && cpu == before,
+            "{bytes:?}"
+        );
+        assert_eq!(rt; mem.load(STACK, Width::W64), Ok(77));
     }
     Ok(())
 }
 
 #[test]
-fn calls_push(rt: HostRuntime) -> Result<(), Fail> {
-    let alloc = rt.alloc();
-    let call = call();
-    let mut mem = Memory::new(alloc);
-    let mut cpu = machine();
-    let refused = XEvent::Fault(XFault::Memory(MemBad::Unmapped(0x1008)));
-    assert_eq!(rt; step(&mut cpu, &mut mem, &call, 2), refused);
-    assert_eq!(rt; cpu, machine());
-    let bytes = vec![in alloc; 0; 16]?;
-    let region = Region {
-        start: 0x1000,
-        bytes,
-        write: true,
-        exec: false,
-    };
-    assert!(rt; mem.has_room(region.start, region.bytes.len() as u64));
-    mem.add(region)?;
-    assert_eq!(rt; step(&mut cpu, &mut mem, &call, 2), XEvent::CallTo(0x1010));
-    assert_eq!(rt; (cpu.sp, cpu.pc), (0x1008, 0x1010));
-    assert_eq!(rt; mem.load(0x1008, Width::W64), Ok(0x102));
+fn refused_stacks(rt: HostRuntime) -> Result<(), Fail> {
+    let refused = XEvent::Fault(XFault::Memory(MemBad::Unmapped(8)));
+    // push rax; call rax; call +0; pop rax; ret
+    let table: [(&[u8], u64); 5] = [
+        (b"\x50", 16),
+        (b"\xFF\xD0", 16),
+        (b"\xE8\x00\x00\x00\x00", 16),
+        (b"\x58", 8),
+        (b"\xC3", 8),
+    ];
+    for (bytes, sp) in table {
+        let mut mem = memory(rt.alloc(), 77)?;
+        let mut cpu = cpu_of(1, 2, 3);
+        cpu.set64(X64Reg::Rsp, sp);
+        let before = cpu;
+        let (i, n) = read(bytes).ok_or("bytes outside the table")?;
+        assert!(rt;
+            step(&mut cpu, &mut mem, &i, n) == refused && cpu == before,
+            "{bytes:?}"
+        );
+    }
+    Ok(())
+}
+
+#[test]
+fn events(rt: HostRuntime) -> Result<(), Fail> {
+    // jno +5; jo +5; jmp +5; jmp rax; call +5; call rax; ret, at 0x100
+    let table: [(&[u8], XEvent); 7] = [
+        (b"\x0F\x81\x05\x00\x00\x00", XEvent::Branch(0x10B)),
+        (b"\x0F\x80\x05\x00\x00\x00", XEvent::Next),
+        (b"\xE9\x05\x00\x00\x00", XEvent::Goto(0x10A)),
+        (b"\xFF\xE0", XEvent::Goto(1)),
+        (b"\xE8\x05\x00\x00\x00", XEvent::CallTo(0x10A)),
+        (b"\xFF\xD0", XEvent::CallTo(1)),
+        (b"\xC3", XEvent::RetTo(77)),
+    ];
+    for (bytes, event) in table {
+        let mut mem = memory(rt.alloc(), 77)?;
+        let mut cpu = cpu_of(1, 2, 3);
+        let (i, n) = read(bytes).ok_or("bytes outside the table")?;
+        assert!(rt; step(&mut cpu, &mut mem, &i, n) == event, "{bytes:?}");
+    }
     Ok(())
 }

@@ -1,23 +1,27 @@
 -- The two-way law, of reading as a whole.
-use Rattle.std.proofs.Common.{Bool, true, false, ℤ, ◌≡◌, ◌≢◌, ◌↔◌, ℕ, zero, suc, ◌+◌, ◌-◌, ◌≤◌, List, [], ◌∷◌, ◌++◌, length, take, drop, Result, Ok, Err, refl, sym, ap, subst, ◌∙◌, arith, length-append}
+use Rattle.std.proofs.Common.{◌/◌, ◌%◌, cond, eqb, lit≤, Bool, true, false, ℤ, ◌≡◌, ◌≢◌, ◌↔◌, ℕ, zero, suc, ◌+◌, ◌-◌, ◌≤◌, List, [], ◌∷◌, ◌++◌, length, take, drop, Result, Ok, Err, refl, sym, ap, subst, ◌∙◌, arith, length-append}
 use Rattle.std.proofs.lemmas.List.{append-nil, take-append-drop}
-use Rattle.hx_words.specs.LittleEndian.{AreBytes}
-use Rattle.std.proofs.lemmas.Bool.Decides.{nat_tests}
+use Rattle.hx_words.specs.LittleEndian.{bytes_of, AreBytes}
 use Rattle.hx_words.specs.TwosComplement.{bits_of}
 use Rattle.hx_words.proofs.LittleEndianLaws.{AreBytes-append, length-bytes_of}
 use Rattle.reg_map.specs.declared.registers.X64Reg.{X64Reg}
 use Rattle.x64_isa.specs.declared.instruction.XInstr.{XInstr}
-use Rattle.x64_isa.specs.declared.instruction.XInstr.TheVariants.{MovImm64, SubImm, CallReg, Ud2}
+use Rattle.x64_isa.specs.declared.instruction.XInstr.TheVariants.{MovReg, MovLoad, Mov32Reg, Mov32Load, MovStore, Mov32Store, Mov16Store, Mov8Store, Movzx8Reg, Movzx8Load, Movzx16Reg, Movzx16Load, Movsx8Reg, Movsx8Load, Movsx16Reg, Movsx16Load, Movsx32Reg, Movsx32Load, MovImm64, Lea, AddReg, OrReg, AndReg, SubReg, XorReg, CmpReg, AddImm, OrImm, AndImm, SubImm, XorImm, CmpImm, TestReg, ImulReg, NotReg, NegReg, DivReg, IdivReg, Cqo, ShlCl, ShrCl, SarCl, ShlImm, ShrImm, SarImm, Setcc, Jcc, JmpRel, CallRel, CallReg, CallMem, JmpReg, JmpMem, Push, Pop, Ret, Int3, Ud2}
+use Rattle.x64_isa.specs.declared.instruction.Place.{Place}
+use Rattle.x64_isa.specs.declared.instruction.Place.TheVariants.{Base, Rip}
+use Rattle.x64_isa.specs.declared.instruction.Operand.{Operand}
+use Rattle.x64_isa.specs.declared.instruction.Operand.TheVariants.{Register, Memory}
 use Rattle.x64_isa.specs.declared.instruction.XBad.{XBad}
 use Rattle.x64_isa.specs.declared.instruction.XBad.TheVariants.{Short, Unknown}
-use Rattle.x64_isa.specs.Spelling.{spell_of, Valid, IsFront, Begins, arith_imm, rex_if_needed}
-use Rattle.x64_isa.specs.Fields.{low, high, modrm, fits8}
+use Rattle.x64_isa.specs.Spelling.{spell_of, Valid, IsFront, Begins, wide, narrow, always, rex_if_needed, arith_imm}
+use Rattle.x64_isa.specs.Fields.{number_of_register, number_of_condition, low, high, rex, imm8, imm32, fits8, sib, place_tail, register_bytes, place_bytes, operand_high, operand_bytes}
 use Rattle.x64_isa.specs.Reading.{read_of, decode_of, sized}
 use Rattle.x64_isa.proofs.Readers.{ok, ok_is, added}
-use Rattle.x64_isa.proofs.Forms.{read_of-stable, read_of-completes, read_of-spelled, read_of-again}
+use Rattle.x64_isa.proofs.FormReaders.{read_of-good}
+use Rattle.x64_isa.proofs.Again.{read_of-again}
 
 pub read_of-found : (bytes : List ℕ) → AreBytes bytes → (i : XInstr) (rest : List ℕ) → read_of bytes ≡ Ok (i, rest) → Valid i × (bytes ≡ spell_of i ++ rest)
-read_of-found bytes fits i rest e = read_of-spelled.found bytes fits i rest e
+read_of-found bytes fits i rest e = read_of-good.found bytes fits i rest e
 
 pub read_of-only : (bytes : List ℕ) (i : XInstr) (rest : List ℕ) → Valid i → bytes ≡ spell_of i ++ rest → read_of bytes ≡ Ok (i, rest)
 read_of-only bytes i rest v e = ap read_of e ∙ read_of-again i rest v
@@ -38,20 +42,20 @@ is_short (Err Unknown) whole more i k e ne = let g : whole ≡ Err Unknown = k (
 pub read_of-short : (bytes : List ℕ) → AreBytes bytes → (read_of bytes ≡ Err Short) ↔ IsFront bytes
 read_of-short bytes fits = (
   λ e.
-      let c = read_of-completes.goes_on bytes fits e in
-      let h = read_of-found (bytes ++ c.more) (AreBytes-append bytes c.more fits c.are_bytes) c.instruction [] c.reads in
+      let c = read_of-good.goes_on bytes fits e in
+      let h = read_of-found (bytes ++ c.more) (AreBytes-append bytes c.more fits c.are_bytes) c.value [] c.reads in
       record {
-        instruction = c.instruction;
+        instruction = c.value;
         rest = c.more;
         valid = h.0;
         more = λ nil.
-            let same : read_of bytes ≡ Ok (c.instruction, []) = ap read_of (sym (append-nil bytes)) ∙ ap (λ (m : List ℕ). read_of (bytes ++ m)) (sym nil) ∙ c.reads in
+            let same : read_of bytes ≡ Ok (c.value, []) = ap read_of (sym (append-nil bytes)) ∙ ap (λ (m : List ℕ). read_of (bytes ++ m)) (sym nil) ∙ c.reads in
             cc;
-        spelled = sym (append-nil (spell_of c.instruction)) ∙ sym h.1;
+        spelled = sym (append-nil (spell_of c.value)) ∙ sym h.1;
       },
   λ f.
       let whole : read_of (bytes ++ f.rest) ≡ Ok (f.instruction, []) = read_of-only (bytes ++ f.rest) f.instruction [] f.valid (sym f.spelled ∙ sym (append-nil (spell_of f.instruction))) in
-      is_short (read_of bytes) (read_of (bytes ++ f.rest)) f.rest f.instruction (read_of-stable.keeps bytes f.rest) whole f.more,
+      is_short (read_of bytes) (read_of (bytes ++ f.rest)) f.rest f.instruction (λ n. read_of-good.keeps bytes f.rest fits n) whole f.more,
 )
 
 -- ---- with the number of bytes
@@ -163,17 +167,119 @@ spell_of-apart i j rest v w e =
     let b : (i, []) ≡ (j, rest) = ok_is (i, []) (j, rest) a in
     (ap (λ (x : XInstr × List ℕ). x.0) b, sym (ap (λ (x : XInstr × List ℕ). x.1) b))
 
--- the longest has ten bytes
-rex_size : (r b : ℕ) → length (rex_if_needed r b) ≤ 1
-rex_size r b = grind (arith, nat_tests)
+-- ---- sizes
 
-arith_size : (c : Bool) (n : ℕ) (q : X64Reg) (z : ℤ) → fits8 z ≡ c → length (arith_imm n q z) ≤ 7
-arith_size true n q z e = rw e (omega (arith, length-bytes_of 1 (bits_of 8 z)))
-arith_size false n q z e = rw e (omega (arith, length-bytes_of 4 (bits_of 32 z)))
+imm8_size : (z : ℤ) → length (imm8 z) ≤ 4
+imm8_size z = omega (arith, length-bytes_of 1 (bits_of 8 z))
+
+imm32_size : (z : ℤ) → length (imm32 z) ≤ 4
+imm32_size z = omega (arith, length-bytes_of 4 (bits_of 32 z))
+
+sib_size : (t : Bool) → length {A = ℕ} (cond t (0x24 ∷ []) []) ≤ 1
+sib_size true = omega arith
+sib_size false = omega arith
+
+disp_size : (t : Bool) (z : ℤ) → length (cond t (imm8 z) (imm32 z)) ≤ 4
+disp_size true z = imm8_size z
+disp_size false z = imm32_size z
+
+place_size : (n : ℕ) (m : Place) → length (place_bytes n m) ≤ 6
+unfolding place_bytes place_tail
+place_size n (Base base d) = omega (arith, length-append (sib (low base)) (cond (fits8 d) (imm8 d) (imm32 d)), sib_size (eqb (low base) 4), disp_size (fits8 d) d)
+place_size n (Rip d) = omega (arith, imm32_size d)
+
+operand_size : (n : ℕ) (o : Operand) → length (operand_bytes n o) ≤ 6
+unfolding register_bytes
+operand_size n (Register q) = omega arith
+operand_size n (Memory m) = place_size n m
+
+rex_size : (t : Bool) (x : ℕ) → length {A = ℕ} (cond t [] (x ∷ [])) ≤ 1
+rex_size true x = omega arith
+rex_size false x = omega arith
+
+wide_size : (o : List ℕ) (n : ℕ) (p : Operand) → length o ≤ 2 → length (wide o n p) ≤ 9
+unfolding wide
+wide_size o n p h = omega (arith, length-append o (operand_bytes (n % 8) p), operand_size (n % 8) p)
+
+always_size : (o : List ℕ) (n : ℕ) (p : Operand) → length o ≤ 2 → length (always o n p) ≤ 9
+unfolding always
+always_size o n p h = omega (arith, length-append o (operand_bytes (n % 8) p), operand_size (n % 8) p)
+
+needed_size : (r b : ℕ) → length (rex_if_needed r b) ≤ 1
+unfolding rex_if_needed
+needed_size r b = rex_size (eqb (r + b) 0) (rex 0 r b)
+
+narrow_size : (o : List ℕ) (n : ℕ) (p : Operand) → length o ≤ 2 → length (narrow o n p) ≤ 9
+unfolding narrow
+narrow_size o n p h = omega (arith, length-append (rex_if_needed (n / 8) (operand_high p)) (o ++ operand_bytes (n % 8) p), length-append o (operand_bytes (n % 8) p), operand_size (n % 8) p, needed_size (n / 8) (operand_high p))
+
+either_size : (t : Bool) (a b : List ℕ) → length a ≤ 15 → length b ≤ 15 → length (cond t a b) ≤ 15
+either_size true a b h g = h
+either_size false a b h g = g
+
+arith_size : (n : ℕ) (q : X64Reg) (z : ℤ) → length (arith_imm n q z) ≤ 15
+unfolding arith_imm
+arith_size n q z = either_size (fits8 z) (wide (0x83 ∷ []) n (Register q) ++ imm8 z) (wide (0x81 ∷ []) n (Register q) ++ imm32 z)
+    (omega (arith, length-append (wide (0x83 ∷ []) n (Register q)) (imm8 z), wide_size (0x83 ∷ []) n (Register q) (lit≤ tt), imm8_size z))
+    (omega (arith, length-append (wide (0x81 ∷ []) n (Register q)) (imm32 z), wide_size (0x81 ∷ []) n (Register q) (lit≤ tt), imm32_size z))
 
 pub spell_of-size : (i : XInstr) → length (spell_of i) ≤ 15
 unfolding spell_of
+spell_of-size (MovReg r q) = omega (arith, wide_size (0x8B ∷ []) (number_of_register r) (Register q) (lit≤ tt))
+spell_of-size (MovLoad r m) = omega (arith, wide_size (0x8B ∷ []) (number_of_register r) (Memory m) (lit≤ tt))
+spell_of-size (Mov32Reg r q) = omega (arith, narrow_size (0x8B ∷ []) (number_of_register r) (Register q) (lit≤ tt))
+spell_of-size (Mov32Load r m) = omega (arith, narrow_size (0x8B ∷ []) (number_of_register r) (Memory m) (lit≤ tt))
+spell_of-size (MovStore m r) = omega (arith, wide_size (0x89 ∷ []) (number_of_register r) (Memory m) (lit≤ tt))
+spell_of-size (Mov32Store m r) = omega (arith, narrow_size (0x89 ∷ []) (number_of_register r) (Memory m) (lit≤ tt))
+spell_of-size (Mov16Store m r) = omega (arith, narrow_size (0x89 ∷ []) (number_of_register r) (Memory m) (lit≤ tt))
+spell_of-size (Mov8Store m r) = omega (arith, always_size (0x88 ∷ []) (number_of_register r) (Memory m) (lit≤ tt))
+spell_of-size (Movzx8Reg r q) = omega (arith, wide_size (0x0F ∷ (0xB6 ∷ [])) (number_of_register r) (Register q) (lit≤ tt))
+spell_of-size (Movzx8Load r m) = omega (arith, wide_size (0x0F ∷ (0xB6 ∷ [])) (number_of_register r) (Memory m) (lit≤ tt))
+spell_of-size (Movzx16Reg r q) = omega (arith, wide_size (0x0F ∷ (0xB7 ∷ [])) (number_of_register r) (Register q) (lit≤ tt))
+spell_of-size (Movzx16Load r m) = omega (arith, wide_size (0x0F ∷ (0xB7 ∷ [])) (number_of_register r) (Memory m) (lit≤ tt))
+spell_of-size (Movsx8Reg r q) = omega (arith, wide_size (0x0F ∷ (0xBE ∷ [])) (number_of_register r) (Register q) (lit≤ tt))
+spell_of-size (Movsx8Load r m) = omega (arith, wide_size (0x0F ∷ (0xBE ∷ [])) (number_of_register r) (Memory m) (lit≤ tt))
+spell_of-size (Movsx16Reg r q) = omega (arith, wide_size (0x0F ∷ (0xBF ∷ [])) (number_of_register r) (Register q) (lit≤ tt))
+spell_of-size (Movsx16Load r m) = omega (arith, wide_size (0x0F ∷ (0xBF ∷ [])) (number_of_register r) (Memory m) (lit≤ tt))
+spell_of-size (Movsx32Reg r q) = omega (arith, wide_size (0x63 ∷ []) (number_of_register r) (Register q) (lit≤ tt))
+spell_of-size (Movsx32Load r m) = omega (arith, wide_size (0x63 ∷ []) (number_of_register r) (Memory m) (lit≤ tt))
 spell_of-size (MovImm64 r imm) = omega (arith, length-bytes_of 8 imm)
-spell_of-size (SubImm q imm) = omega (arith, arith_size (fits8 imm) 5 q imm refl)
-spell_of-size (CallReg q) = omega (arith, length-append (rex_if_needed 0 (high q)) (0xFF ∷ (modrm 3 2 (low q) ∷ [])), rex_size 0 (high q))
+spell_of-size (Lea r m) = omega (arith, wide_size (0x8D ∷ []) (number_of_register r) (Memory m) (lit≤ tt))
+spell_of-size (AddReg q r) = omega (arith, wide_size (0x01 ∷ []) (number_of_register r) (Register q) (lit≤ tt))
+spell_of-size (OrReg q r) = omega (arith, wide_size (0x09 ∷ []) (number_of_register r) (Register q) (lit≤ tt))
+spell_of-size (AndReg q r) = omega (arith, wide_size (0x21 ∷ []) (number_of_register r) (Register q) (lit≤ tt))
+spell_of-size (SubReg q r) = omega (arith, wide_size (0x29 ∷ []) (number_of_register r) (Register q) (lit≤ tt))
+spell_of-size (XorReg q r) = omega (arith, wide_size (0x31 ∷ []) (number_of_register r) (Register q) (lit≤ tt))
+spell_of-size (CmpReg q r) = omega (arith, wide_size (0x39 ∷ []) (number_of_register r) (Register q) (lit≤ tt))
+spell_of-size (AddImm q imm) = arith_size 0 q imm
+spell_of-size (OrImm q imm) = arith_size 1 q imm
+spell_of-size (AndImm q imm) = arith_size 4 q imm
+spell_of-size (SubImm q imm) = arith_size 5 q imm
+spell_of-size (XorImm q imm) = arith_size 6 q imm
+spell_of-size (CmpImm q imm) = arith_size 7 q imm
+spell_of-size (TestReg q r) = omega (arith, wide_size (0x85 ∷ []) (number_of_register r) (Register q) (lit≤ tt))
+spell_of-size (ImulReg r q) = omega (arith, wide_size (0x0F ∷ (0xAF ∷ [])) (number_of_register r) (Register q) (lit≤ tt))
+spell_of-size (NotReg q) = omega (arith, wide_size (0xF7 ∷ []) 2 (Register q) (lit≤ tt))
+spell_of-size (NegReg q) = omega (arith, wide_size (0xF7 ∷ []) 3 (Register q) (lit≤ tt))
+spell_of-size (DivReg q) = omega (arith, wide_size (0xF7 ∷ []) 6 (Register q) (lit≤ tt))
+spell_of-size (IdivReg q) = omega (arith, wide_size (0xF7 ∷ []) 7 (Register q) (lit≤ tt))
+spell_of-size Cqo = omega arith
+spell_of-size (ShlCl q) = omega (arith, wide_size (0xD3 ∷ []) 4 (Register q) (lit≤ tt))
+spell_of-size (ShrCl q) = omega (arith, wide_size (0xD3 ∷ []) 5 (Register q) (lit≤ tt))
+spell_of-size (SarCl q) = omega (arith, wide_size (0xD3 ∷ []) 7 (Register q) (lit≤ tt))
+spell_of-size (ShlImm q imm) = omega (arith, length-append (wide (0xC1 ∷ []) 4 (Register q)) (bytes_of 1 imm), wide_size (0xC1 ∷ []) 4 (Register q) (lit≤ tt), length-bytes_of 1 imm)
+spell_of-size (ShrImm q imm) = omega (arith, length-append (wide (0xC1 ∷ []) 5 (Register q)) (bytes_of 1 imm), wide_size (0xC1 ∷ []) 5 (Register q) (lit≤ tt), length-bytes_of 1 imm)
+spell_of-size (SarImm q imm) = omega (arith, length-append (wide (0xC1 ∷ []) 7 (Register q)) (bytes_of 1 imm), wide_size (0xC1 ∷ []) 7 (Register q) (lit≤ tt), length-bytes_of 1 imm)
+spell_of-size (Setcc c q) = omega (arith, always_size (0x0F ∷ ((0x90 + number_of_condition c) ∷ [])) 0 (Register q) (lit≤ tt))
+spell_of-size (Jcc c rel) = omega (arith, imm32_size rel)
+spell_of-size (JmpRel rel) = omega (arith, imm32_size rel)
+spell_of-size (CallRel rel) = omega (arith, imm32_size rel)
+spell_of-size (CallReg q) = omega (arith, narrow_size (0xFF ∷ []) 2 (Register q) (lit≤ tt))
+spell_of-size (CallMem m) = omega (arith, narrow_size (0xFF ∷ []) 2 (Memory m) (lit≤ tt))
+spell_of-size (JmpReg q) = omega (arith, narrow_size (0xFF ∷ []) 4 (Register q) (lit≤ tt))
+spell_of-size (JmpMem m) = omega (arith, narrow_size (0xFF ∷ []) 4 (Memory m) (lit≤ tt))
+spell_of-size (Push r) = omega (arith, length-append (rex_if_needed 0 (high r)) ((0x50 + low r) ∷ []), needed_size 0 (high r))
+spell_of-size (Pop r) = omega (arith, length-append (rex_if_needed 0 (high r)) ((0x58 + low r) ∷ []), needed_size 0 (high r))
+spell_of-size Ret = omega arith
+spell_of-size Int3 = omega arith
 spell_of-size Ud2 = omega arith

@@ -1,5 +1,7 @@
 pub mod Bytes
 pub mod FieldLaws
 pub mod Readers
-pub mod Forms
+pub mod OperandLaws
+pub mod FormReaders
+pub mod Again
 pub mod Exact

@@ -2,8 +2,9 @@
 
 ghost use Rattle.std.specs.Prelude.{◌≡◌, ◌<◌, IsTrue};
 ghost use Rattle.hx_words.specs.TwosComplement.{signed_of, bits_of};
-ghost use Rattle.x64_isa.specs.Fields.{number_of_register, register_of, register_at as register_at_lem, low as low_lem, high as high_lem, fits8 as fits8_lem};
+ghost use Rattle.x64_isa.specs.Fields.{number_of_register, register_of, register_at as register_at_lem, low as low_lem, high as high_lem, fits8 as fits8_lem, number_of_condition as number_of_condition_lem, condition_of, is_condition as is_condition_lem};
 
+use crate::instruction::Condition;
 use reg_map::registers::X64Reg;
 
 #[tactic(auto, unfolding(crate::specs::Fields::register_of))]
@@ -126,4 +127,59 @@ pub fn bits8(z: i32) -> u8
     ensures { result ≡ bits_of 8 z }
 {
     if z >= 0 { z as u8 } else { (z + 256) as u8 }
+}
+
+/// The number of a condition.
+#[tactic(auto, unfolding(crate::specs::Fields::number_of_condition))]
+pub fn number_of_condition(c: Condition) -> u8
+    ensures value { result ≡ number_of_condition_lem c }
+    ensures fits { result < 16 }
+{
+    match c {
+        Condition::Overflow => 0,
+        Condition::NotOverflow => 1,
+        Condition::Below => 2,
+        Condition::AboveOrEqual => 3,
+        Condition::Equals => 4,
+        Condition::NotEquals => 5,
+        Condition::BelowOrEqual => 6,
+        Condition::Above => 7,
+        Condition::Sign => 8,
+        Condition::NotSign => 9,
+        Condition::LessThan => 12,
+        Condition::GreaterOrEqual => 13,
+        Condition::LessOrEqual => 14,
+        Condition::GreaterThan => 15,
+    }
+}
+
+/// Whether a number below 16 is that of a condition.
+#[tactic(auto, unfolding(crate::specs::Fields::is_condition))]
+pub fn is_condition(n: u8) -> bool
+    ensures { result ≡ is_condition_lem n }
+{
+    (n < 10) | (12 <= n)
+}
+
+/// The condition of a number.
+#[tactic(auto, unfolding(crate::specs::Fields::condition_of))]
+pub fn condition(n: u8) -> Condition
+    ensures { result ≡ condition_of n }
+{
+    match n {
+        0 => Condition::Overflow,
+        1 => Condition::NotOverflow,
+        2 => Condition::Below,
+        3 => Condition::AboveOrEqual,
+        4 => Condition::Equals,
+        5 => Condition::NotEquals,
+        6 => Condition::BelowOrEqual,
+        7 => Condition::Above,
+        8 => Condition::Sign,
+        9 => Condition::NotSign,
+        12 => Condition::LessThan,
+        13 => Condition::GreaterOrEqual,
+        14 => Condition::LessOrEqual,
+        _ => Condition::GreaterThan,
+    }
 }

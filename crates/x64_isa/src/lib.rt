@@ -12,11 +12,14 @@ pub mod encoder;
 mod fields;
 pub mod instruction;
 pub mod law;
+mod operands;
 
 pub use decoder::decode;
 pub use encoder::encode;
-pub use instruction::{XBad, XInstr};
+pub use instruction::{Condition, Operand, Place, XBad, XInstr};
 pub use law::one_reading;
 
+#[cfg(test)]
+mod spellings;
 #[cfg(test)]
 mod tests;

@@ -1,4 +1,4 @@
-use Rattle.std.proofs.Common.{◌≡◌, ◌↔◌, List, ℕ, subst, sym, arith}
+use Rattle.std.proofs.Common.{arith}
 use Rattle.x64_isa.proofs.Exact.{decoded-read, decoded-short, decoded-unknown}
 use Rattle.x64_isa.proofs.Readers.{AreBytes-from_each}
 use Rattle.x64_isa.proofs.decoder.decode.Goals as goal
