@@ -1,0 +1,4 @@
+pub mod Compares
+pub mod Forms
+pub mod Quotients
+pub mod Extensions
