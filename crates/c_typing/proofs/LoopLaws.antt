@@ -3,9 +3,11 @@ use Rattle.std.proofs.Common.{◌≡◌, ℕ, ◌+◌, suc, ◌<◌, ◌≤◌, 
 use Rattle.std.proofs.Math.Seq.{drop-cons}
 use Rattle.std.proofs.lemmas.List.{drop_all}
 use Rattle.c_typing.specs.declared.faults.Fault.{Fault}
+use Rattle.c_typing.specs.declared.faults.Refusal.{Refusal}
+use Rattle.c_typing.specs.declared.faults.Refusal.TheVariants as refusal
 use Rattle.c_typing.specs.declared.scopes.LocalScope.{LocalScope}
 use Rattle.c_typing.specs.declared.tables.Tables.{Tables}
-use Rattle.c_typing.specs.Visits.{Visit, onward, followed, give, each_in_order, behind}
+use Rattle.c_typing.specs.Visits.{Visit, onward, followed, give, each_in_order, behind, Leaves}
 use Rattle.c_typing.specs.Statements.{Scoped, ScopeVisit, in_scopes, scoped_behind}
 
 -- the rest of a list begins with the element at the place
@@ -124,3 +126,14 @@ pub scopes_whole : {A B : Type 0} (visit : A → ScopeVisit B) (xs : List A) (i 
     length xs ≤ i → scoped_behind front (in_scopes (map visit (drop i xs)) locals t) ≡ whole → whole ≡ Ok (record { part = front; locals = locals }, t)
 scopes_whole visit xs i front locals t whole h inv =
     sym inv ∙ ap (λ ys. scoped_behind front (in_scopes (map visit ys) locals t)) (drop_all i xs h) ∙ scopes_done front locals t
+
+-- a call for a part refused: so does the whole, whatever state is left
+pub each_left : {S A B : Type 0} (visit : A → Visit S B) (xs : List A) (i : ℕ) (x : A) (front : List B) (s s' : S) (e : Refusal) (whole : Result (List B × S) Fault) →
+    i < length xs → x ≡ get_or xs i x → Leaves (visit x s) (Err e) s' → behind front (each_in_order (map visit (drop i xs)) s) ≡ whole → Leaves whole (Err e) s'
+each_left visit xs i x front s s' (refusal.Fault f) whole h w v inv = each_refused visit xs i x front s f whole h w v inv
+each_left visit xs i x front s s' refusal.NoMemory whole h w v inv = tt
+
+pub scopes_left : {A B : Type 0} (visit : A → ScopeVisit B) (xs : List A) (i : ℕ) (x : A) (front : List B) (locals : LocalScope) (t t' : Tables) (e : Refusal) (whole : Result (Scoped (List B) × Tables) Fault) →
+    i < length xs → x ≡ get_or xs i x → Leaves (visit x locals t) (Err e) t' → scoped_behind front (in_scopes (map visit (drop i xs)) locals t) ≡ whole → Leaves whole (Err e) t'
+scopes_left visit xs i x front locals t t' (refusal.Fault f) whole h w v inv = scopes_refused visit xs i x front locals t f whole h w v inv
+scopes_left visit xs i x front locals t t' refusal.NoMemory whole h w v inv = tt

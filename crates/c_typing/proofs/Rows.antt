@@ -8,7 +8,7 @@ use Rattle.c_typing.specs.Heads.{visit_parameter, visit_parameters, head_type, c
 use Rattle.c_typing.specs.Items.{visit_items, visit_unit}
 use Rattle.c_typing.specs.Scopes.{named, is_taken}
 use Rattle.c_typing.specs.Statements.{enter_local, free_name, visit_initial, visit_declarator, visit_declarators, visit_block, in_scopes}
-use Rattle.c_typing.specs.Structs.{with_scope}
+use Rattle.c_typing.specs.UnitVisits.{with_scope}
 use Rattle.c_typing.specs.TypeForms.{enter_type, enter_function, pointer_type, starred, formed_type, result_type, object_type, array_type, array_types, declared_type}
 use Rattle.c_typing.specs.Units.{visit_units, missing, typed, unit_fault}
 use Rattle.c_typing.specs.Visits.{followed, give, refuse, judged, looked, changed, each_in_order}
