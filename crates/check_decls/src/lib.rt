@@ -1,0 +1,17 @@
+//! Declarations that need no expressions.
+#![tactic(auto)]
+
+mod forms;
+mod globals;
+mod heads;
+mod initials;
+mod names;
+mod numbers;
+mod paths;
+mod structs;
+
+pub use globals::{declare_extern, define_globals};
+pub use heads::{types_of_params, check_free, declare_local, enter_head, enter_parameters, check_variadic_type, number_local};
+pub use names::{check_untaken, declare_name, is_no_adjustor, is_no_function, is_no_global, is_no_typedef};
+pub use numbers::{char_constant, number_constant};
+pub use structs::define_struct;
