@@ -1,5 +1,5 @@
 -- What each form of expression designates, from its parts.
-use Rattle.std.proofs.Common.{◌≡◌, true, false, List, map, sym, ap, ◌∙◌}
+use Rattle.std.proofs.Common.{◌≡◌, true, false, List, sym, ap, ◌∙◌}
 use Rattle.std.specs.Prelude.{ℤ}
 use Rattle.c_types.specs.declared.types.Span.{Span}
 use Rattle.c_types.specs.declared.types.IntTy.{IntTy}
@@ -24,7 +24,7 @@ use Rattle.c_typing.specs.declared.operands.Value.{Value}
 use Rattle.std.proofs.lemmas.Simd.{map-map}
 use Rattle.c_typing.specs.declared.tables.Tables.{Tables}
 use Rattle.c_typing.specs.Visits.{Visit, ◌>>=◌, give, judged, looked, each_in_order}
-use Rattle.c_typing.specs.Expressions.{visit_expr_at, visit_expr, value, name_of, number_of, given, next_extra, called, indexed, selected, stepped_after, unary, cast, sized, operated, chosen, assigned}
+use Rattle.c_typing.specs.Expressions.{visit_expr_at, visit_expr, visit_values, value, name_of, number_of, given, next_extra, called, indexed, selected, stepped_after, unary, cast, sized, operated, chosen, assigned}
 
 pub visit_expr-Name : (unit : UnitScope) (locals : LocalScope) (n : Name) (t : Tables) → visit_expr unit locals (expr.Name n) t ≡ (judged (name_of unit locals n)) t
 unfolding visit_expr
@@ -46,8 +46,8 @@ pub visit_expr-VaArg : (unit : UnitScope) (locals : LocalScope) (s : Span) (n : 
 unfolding visit_expr
 visit_expr-VaArg unit locals s n ty t = ap (λ (v : Visit Tables Operand). v t) (ap (fold-Expr (Visit Tables Operand) (visit_expr_at unit locals)) (sym (rolls-Expr-VaArg s n ty)) ∙ fold-roll-Expr (Visit Tables Operand) (visit_expr_at unit locals) (Expr-F.VaArg s n ty))
 
-pub visit_expr-Call : (unit : UnitScope) (locals : LocalScope) (f : Expr) (s : Span) (args : List Expr) (t : Tables) → visit_expr unit locals (expr.Call f s args) t ≡ (visit_expr unit locals f >>= (λ o. each_in_order (map (λ e. value (visit_expr unit locals e)) args) >>= (λ vs. called s.start o vs))) t
-unfolding visit_expr
+pub visit_expr-Call : (unit : UnitScope) (locals : LocalScope) (f : Expr) (s : Span) (args : List Expr) (t : Tables) → visit_expr unit locals (expr.Call f s args) t ≡ (visit_expr unit locals f >>= (λ o. visit_values unit locals args >>= (λ vs. called s.start o vs))) t
+unfolding visit_expr visit_values
 visit_expr-Call unit locals f s args t = ap (λ (v : Visit Tables Operand). v t) (ap (fold-Expr (Visit Tables Operand) (visit_expr_at unit locals)) (sym (rolls-Expr-Call f s args)) ∙ fold-roll-Expr (Visit Tables Operand) (visit_expr_at unit locals) (Expr-F.Call f s args)) ∙ ap (λ (vs : List (Visit Tables Value)). (visit_expr unit locals f >>= (λ o. each_in_order vs >>= (λ xs. called s.start o xs))) t) (map-map value (visit_expr unit locals) args)
 
 pub visit_expr-Index : (unit : UnitScope) (locals : LocalScope) (a : Expr) (s : Span) (i : Expr) (t : Tables) → visit_expr unit locals (expr.Index a s i) t ≡ (visit_expr unit locals a >>= (λ o. value (visit_expr unit locals i) >>= (λ v. looked (λ t. indexed s.start o v t.types)))) t

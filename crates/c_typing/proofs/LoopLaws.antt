@@ -1,10 +1,13 @@
 -- Parts in order, one more at a time: for loops over the parts that push what each gives.
-use Rattle.std.proofs.Common.{◌≡◌, ℕ, ◌+◌, suc, ◌<◌, List, [], ◌∷◌, ◌++◌, map, drop, length, get_or, Result, Ok, Err, refl, sym, ap, ◌∙◌, add-one, append_assoc, append-nil}
+use Rattle.std.proofs.Common.{◌≡◌, ℕ, ◌+◌, suc, ◌<◌, ◌≤◌, List, [], ◌∷◌, ◌++◌, map, drop, length, get_or, Result, Ok, Err, refl, sym, ap, ◌∙◌, add-one, append_assoc, append-nil}
 use Rattle.std.proofs.Math.Seq.{drop-cons}
+use Rattle.std.proofs.lemmas.List.{drop_all}
 use Rattle.c_typing.specs.declared.faults.Fault.{Fault}
+use Rattle.c_typing.specs.declared.faults.Refusal.{Refusal}
+use Rattle.c_typing.specs.declared.faults.Refusal.TheVariants as refusal
 use Rattle.c_typing.specs.declared.scopes.LocalScope.{LocalScope}
 use Rattle.c_typing.specs.declared.tables.Tables.{Tables}
-use Rattle.c_typing.specs.Visits.{Visit, onward, followed, give, each_in_order, behind}
+use Rattle.c_typing.specs.Visits.{Visit, onward, followed, give, each_in_order, behind, Leaves}
 use Rattle.c_typing.specs.Statements.{Scoped, ScopeVisit, in_scopes, scoped_behind}
 
 -- the rest of a list begins with the element at the place
@@ -91,3 +94,46 @@ scopes_done front locals t = ap (λ ys. Ok (record { part = ys; locals = locals 
 pub scopes_begun : {A : Type 0} (r : Result (Scoped (List A) × Tables) Fault) → scoped_behind [] r ≡ r
 scopes_begun (Ok x) = refl
 scopes_begun (Err e) = refl
+
+-- The same for an invariant: the result of the whole is what is left, behind what was pushed.
+
+pub each_kept : {S A B : Type 0} (visit : A → Visit S B) (xs : List A) (i : ℕ) (x : A) (front next : List B) (s s' : S) (y : B) (whole : Result (List B × S) Fault) →
+    i < length xs → x ≡ get_or xs i x → visit x s ≡ Ok (y, s') → next ≡ front ++ y ∷ [] →
+    behind front (each_in_order (map visit (drop i xs)) s) ≡ whole → behind next (each_in_order (map visit (drop (i + 1) xs)) s') ≡ whole
+each_kept visit xs i x front next s s' y whole h e v p inv =
+    ap (λ ys. behind ys (each_in_order (map visit (drop (i + 1) xs)) s')) p ∙ sym (each_more visit xs i x front s s' y h e v) ∙ inv
+
+pub each_refused : {S A B : Type 0} (visit : A → Visit S B) (xs : List A) (i : ℕ) (x : A) (front : List B) (s : S) (f : Fault) (whole : Result (List B × S) Fault) →
+    i < length xs → x ≡ get_or xs i x → visit x s ≡ Err f → behind front (each_in_order (map visit (drop i xs)) s) ≡ whole → whole ≡ Err f
+each_refused visit xs i x front s f whole h e v inv = sym inv ∙ each_failed visit xs i x front s f h e v
+
+pub each_whole : {S A B : Type 0} (visit : A → Visit S B) (xs : List A) (i : ℕ) (front : List B) (s : S) (whole : Result (List B × S) Fault) →
+    length xs ≤ i → behind front (each_in_order (map visit (drop i xs)) s) ≡ whole → whole ≡ Ok (front, s)
+each_whole visit xs i front s whole h inv =
+    sym inv ∙ ap (λ ys. behind front (each_in_order (map visit ys) s)) (drop_all i xs h) ∙ each_done front s
+
+pub scopes_kept : {A B : Type 0} (visit : A → ScopeVisit B) (xs : List A) (i : ℕ) (x : A) (front next : List B) (locals : LocalScope) (t t' : Tables) (first : Scoped (List B)) (whole : Result (Scoped (List B) × Tables) Fault) →
+    i < length xs → x ≡ get_or xs i x → visit x locals t ≡ Ok (first, t') → next ≡ front ++ first.part →
+    scoped_behind front (in_scopes (map visit (drop i xs)) locals t) ≡ whole → scoped_behind next (in_scopes (map visit (drop (i + 1) xs)) first.locals t') ≡ whole
+scopes_kept visit xs i x front next locals t t' first whole h e v p inv =
+    ap (λ ys. scoped_behind ys (in_scopes (map visit (drop (i + 1) xs)) first.locals t')) p ∙ sym (scopes_more visit xs i x front locals t t' first h e v) ∙ inv
+
+pub scopes_refused : {A B : Type 0} (visit : A → ScopeVisit B) (xs : List A) (i : ℕ) (x : A) (front : List B) (locals : LocalScope) (t : Tables) (f : Fault) (whole : Result (Scoped (List B) × Tables) Fault) →
+    i < length xs → x ≡ get_or xs i x → visit x locals t ≡ Err f → scoped_behind front (in_scopes (map visit (drop i xs)) locals t) ≡ whole → whole ≡ Err f
+scopes_refused visit xs i x front locals t f whole h e v inv = sym inv ∙ scopes_failed visit xs i x front locals t f h e v
+
+pub scopes_whole : {A B : Type 0} (visit : A → ScopeVisit B) (xs : List A) (i : ℕ) (front : List B) (locals : LocalScope) (t : Tables) (whole : Result (Scoped (List B) × Tables) Fault) →
+    length xs ≤ i → scoped_behind front (in_scopes (map visit (drop i xs)) locals t) ≡ whole → whole ≡ Ok (record { part = front; locals = locals }, t)
+scopes_whole visit xs i front locals t whole h inv =
+    sym inv ∙ ap (λ ys. scoped_behind front (in_scopes (map visit ys) locals t)) (drop_all i xs h) ∙ scopes_done front locals t
+
+-- a call for a part refused: so does the whole, whatever state is left
+pub each_left : {S A B : Type 0} (visit : A → Visit S B) (xs : List A) (i : ℕ) (x : A) (front : List B) (s s' : S) (e : Refusal) (whole : Result (List B × S) Fault) →
+    i < length xs → x ≡ get_or xs i x → Leaves (visit x s) (Err e) s' → behind front (each_in_order (map visit (drop i xs)) s) ≡ whole → Leaves whole (Err e) s'
+each_left visit xs i x front s s' (refusal.Fault f) whole h w v inv = each_refused visit xs i x front s f whole h w v inv
+each_left visit xs i x front s s' refusal.NoMemory whole h w v inv = tt
+
+pub scopes_left : {A B : Type 0} (visit : A → ScopeVisit B) (xs : List A) (i : ℕ) (x : A) (front : List B) (locals : LocalScope) (t t' : Tables) (e : Refusal) (whole : Result (Scoped (List B) × Tables) Fault) →
+    i < length xs → x ≡ get_or xs i x → Leaves (visit x locals t) (Err e) t' → scoped_behind front (in_scopes (map visit (drop i xs)) locals t) ≡ whole → Leaves whole (Err e) t'
+scopes_left visit xs i x front locals t t' (refusal.Fault f) whole h w v inv = scopes_refused visit xs i x front locals t f whole h w v inv
+scopes_left visit xs i x front locals t t' refusal.NoMemory whole h w v inv = tt

@@ -1,5 +1,5 @@
 -- What each statement gives, from its parts.
-use Rattle.std.proofs.Common.{◌≡◌, Bool, true, [], ◌∷◌, List, map, Option, sym, ap, ◌∙◌}
+use Rattle.std.proofs.Common.{◌≡◌, Bool, true, [], ◌∷◌, List, Option, sym, ap, ◌∙◌}
 use Rattle.c_types.specs.declared.types.Span.{Span}
 use Rattle.c_tree.specs.declared.expressions.Name.{Name}
 use Rattle.c_tree.specs.declared.expressions.Expr.{Expr}
@@ -23,7 +23,7 @@ use Rattle.c_typing.specs.declared.tables.Tables.{Tables}
 use Rattle.c_typing.specs.declared.tables.Enclosing.{Enclosing}
 use Rattle.c_typing.specs.Visits.{◌>>=◌, give, judged, optionally}
 use Rattle.c_typing.specs.Scopes.{inside}
-use Rattle.c_typing.specs.Statements.{ItemVisit, StmtVisit, visit_block_item_at, visit_stmt_at, visit_block_item, visit_stmt, visit_local, visit_value, visit_effect, ScopeVisit, in_scopes, jump, visit_if, visit_if_else, visit_while, visit_do, visit_for, returned, started, ended}
+use Rattle.c_typing.specs.Statements.{ItemVisit, StmtVisit, visit_block_item_at, visit_stmt_at, visit_block_item, visit_stmt, visit_local, visit_value, visit_effect, ScopeVisit, in_scopes, visit_block, jump, visit_if, visit_if_else, visit_while, visit_do, visit_for, returned, started, ended}
 
 pub visit_block_item-Local : (unit : UnitScope) (f : Enclosing) (d : Local) (loop : Bool) (locals : LocalScope) (t : Tables) → visit_block_item unit f (block_item.Local d) loop locals t ≡ (visit_local unit f d locals) t
 unfolding visit_block_item visit_stmt
@@ -33,8 +33,8 @@ pub visit_block_item-Stmt : (unit : UnitScope) (f : Enclosing) (x : Stmt) (loop 
 unfolding visit_block_item visit_stmt
 visit_block_item-Stmt unit f x loop locals t = ap (λ (v : ItemVisit). v loop locals t) (ap (fold-BlockItem ItemVisit StmtVisit (visit_block_item_at unit f) (visit_stmt_at unit f)) (sym (rolls-BlockItem-Stmt x)) ∙ fold-roll-BlockItem ItemVisit StmtVisit (visit_block_item_at unit f) (visit_stmt_at unit f) (BlockItem-F.Stmt x))
 
-pub visit_stmt-Block : (unit : UnitScope) (f : Enclosing) (s : Span) (xs : List BlockItem) (loop : Bool) (locals : LocalScope) (t : Tables) → visit_stmt unit f (stmt.Block s xs) loop locals t ≡ (in_scopes (map (λ x. visit_block_item unit f x loop) xs) (inside locals) >>= (λ x. give (typed.Block x.part))) t
-unfolding visit_block_item visit_stmt
+pub visit_stmt-Block : (unit : UnitScope) (f : Enclosing) (s : Span) (xs : List BlockItem) (loop : Bool) (locals : LocalScope) (t : Tables) → visit_stmt unit f (stmt.Block s xs) loop locals t ≡ (visit_block unit f loop xs (inside locals) >>= (λ x. give (typed.Block x.part))) t
+unfolding visit_block_item visit_stmt visit_block
 visit_stmt-Block unit f s xs loop locals t = ap (λ (v : StmtVisit). v loop locals t) (ap (fold-Stmt ItemVisit StmtVisit (visit_block_item_at unit f) (visit_stmt_at unit f)) (sym (rolls-Stmt-Block s xs)) ∙ fold-roll-Stmt ItemVisit StmtVisit (visit_block_item_at unit f) (visit_stmt_at unit f) (Stmt-F.Block s xs)) ∙ ap (λ (vs : List (ScopeVisit TypedItem)). (in_scopes vs (inside locals) >>= (λ x. give (typed.Block x.part))) t) (map-map (λ (v : ItemVisit). v loop) (visit_block_item unit f) xs)
 
 pub visit_stmt-Empty : (unit : UnitScope) (f : Enclosing) (s : Span) (loop : Bool) (locals : LocalScope) (t : Tables) → visit_stmt unit f (stmt.Empty s) loop locals t ≡ (give typed.Empty) t

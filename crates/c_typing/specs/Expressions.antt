@@ -484,3 +484,7 @@ visit_expr_at unit locals (Expr-F.Assign op s l r) = l >>= (λ o. value r >>= (�
 -- what an expression designates
 unfoldable pub visit_expr : UnitScope → LocalScope → Expr → Visit Tables Operand
 visit_expr unit locals = fold-Expr (Visit Tables Operand) (visit_expr_at unit locals)
+
+-- expressions that are used as values, in order
+unfoldable pub visit_values : UnitScope → LocalScope → List Expr → Visit Tables (List Value)
+visit_values unit locals es = each_in_order (map (λ e. value (visit_expr unit locals e)) es)

@@ -32,7 +32,7 @@ use Rattle.c_typing.specs.TypeForms.{same_type, declared_type}
 use Rattle.c_typing.specs.Statements.{visit_body}
 use Rattle.c_typing.specs.Initials.{visit_optional_init}
 use Rattle.c_typing.specs.Heads.{param_types, visit_parameters, head_type, check_variadic}
-use Rattle.c_typing.specs.Structs.{with_scope}
+use Rattle.c_typing.specs.UnitVisits.{with_scope}
 
 abbrev pub global_named : List GlobalDef → List ℕ → Option ℕ
 global_named gs name = position (λ g. bytes_eq g.name name) gs

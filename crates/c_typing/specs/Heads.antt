@@ -40,7 +40,7 @@ abbrev pub param_type : UnitScope → Param → Visit Tables Ty
 param_type unit p = object_type unit (param_at p) p.base p.stars
 
 -- without a body the names of parameters mean nothing
-abbrev pub param_types : UnitScope → List Param → Visit Tables (List Ty)
+unfoldable pub param_types : UnitScope → List Param → Visit Tables (List Ty)
 param_types unit ps = each_in_order (map (param_type unit) ps)
 
 abbrev pub free_param : UnitScope → LocalScope → Option Name → Visit Tables (Unit {0})
@@ -59,7 +59,7 @@ visit_parameter unit p locals =
     enter_local ty >>= (λ n.
     give (record { part = ty ∷ []; locals = with_param p.name n ty locals }))))
 
-abbrev pub visit_parameters : UnitScope → List Param → Visit Tables (Scoped (List Ty))
+unfoldable pub visit_parameters : UnitScope → List Param → Visit Tables (Scoped (List Ty))
 visit_parameters unit ps = in_scopes (map (visit_parameter unit) ps) no_locals
 
 abbrev pub function_type : Ty → List Ty → Bool → FunTy

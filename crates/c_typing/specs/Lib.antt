@@ -6,6 +6,7 @@ pub mod Expressions
 pub mod Statements
 pub mod Initials
 pub mod Heads
+pub mod UnitVisits
 pub mod Structs
 pub mod Externals
 pub mod Adjustors

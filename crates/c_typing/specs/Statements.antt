@@ -88,8 +88,8 @@ visit_declarator unit b d locals =
     optionally (visit_initial unit after d.decl.name.span.start ty) d.init >>= (λ init.
     give (record { part = (record { local = n; ty = ty; init = init }) ∷ []; locals = after })))))
 
-abbrev pub visit_declarators : UnitScope → Base → List LocalDecl → ScopeVisit Declared
-visit_declarators unit b ds = in_scopes (map (visit_declarator unit b) ds)
+unfoldable pub visit_declarators : UnitScope → Base → List LocalDecl → ScopeVisit Declared
+visit_declarators unit b ds locals = in_scopes (map (visit_declarator unit b) ds) locals
 
 -- a function that more arguments can follow has at most one `va_list`, and no other function has one
 -- (this project's own)
@@ -196,6 +196,10 @@ visit_block_item unit f = fold-BlockItem ItemVisit StmtVisit (visit_block_item_a
 unfoldable pub visit_stmt : UnitScope → Enclosing → Stmt → StmtVisit
 visit_stmt unit f = fold-Stmt ItemVisit StmtVisit (visit_block_item_at unit f) (visit_stmt_at unit f)
 
+-- what a block holds, in order
+unfoldable pub visit_block : UnitScope → Enclosing → Bool → List BlockItem → ScopeVisit TypedItem
+visit_block unit f loop items locals = in_scopes (map (λ x. visit_block_item unit f x loop) items) locals
+
 -- the block of a function, which is the scope of its parameters too (6.2.1p4)
 abbrev pub visit_body : UnitScope → Enclosing → LocalScope → List BlockItem → Visit Tables (Scoped (List TypedItem))
-visit_body unit f parameters items = in_scopes (map (λ x. visit_block_item unit f x false) items) parameters
+visit_body unit f parameters items = visit_block unit f false items parameters

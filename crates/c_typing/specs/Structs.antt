@@ -18,17 +18,8 @@ use Rattle.c_typing.specs.declared.tables.Tables.{Tables}
 use Rattle.c_typing.specs.declared.tables.Progress.{Progress}
 use Rattle.c_typing.specs.Visits.{Visit, fault, ◌>>=◌, give, refuse}
 use Rattle.c_typing.specs.Scopes.{tag_in}
+use Rattle.c_typing.specs.UnitVisits.{with_scope}
 use Rattle.c_typing.specs.TypeForms.{same_type, declared_type, is_within, most_bytes, place_in, grown}
-
--- Visits of tables inside those of the whole program
-
-abbrev pub carried : {A : Type 0} → Progress → Result (A × Tables) Fault → Result (A × Progress) Fault
-carried p (Ok x) = Ok (x.0, record p { tables = x.1 })
-carried p (Err e) = Err e
-
--- a visit that sees what the unit has declared
-unfoldable pub with_scope : {A : Type 0} → (UnitScope → Visit Tables A) → Visit Progress A
-with_scope v p = carried p (v p.scope p.tables)
 
 -- Fields
 
