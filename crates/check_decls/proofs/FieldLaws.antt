@@ -1,5 +1,5 @@
 -- Lists of fields and tags, one element at a time.
-use Rattle.std.proofs.Common.{◌≡◌, ◌≢◌, ℕ, ◌+◌, ◌<◌, suc, Bool, true, false, ◌&&◌, bytes_eq, List, [], ◌∷◌, ◌++◌, map, take, drop, length, Option, Some, None, slice_get, slice_set, if◌then◌else◌, ◌≤◌, zero, refl, arith, ap, ◌∙◌}
+use Rattle.std.proofs.Common.{◌≡◌, ◌≢◌, ℕ, ◌+◌, ◌<◌, suc, Bool, true, false, ◌&&◌, bytes_eq, List, [], ◌∷◌, ◌++◌, map, take, drop, length, Option, Some, None, slice_get, slice_set, if◌then◌else◌, ◌≤◌, zero, refl, sym, add-one, arith, ap, ◌∙◌}
 use Rattle.std.proofs.Math.Bool.{and-false}
 use Rattle.c_types.specs.declared.types.FieldDef.{FieldDef}
 use Rattle.c_typing.specs.declared.scopes.UnitTag.{UnitTag}
@@ -25,13 +25,18 @@ first-completed name t ts = elim (bytes_eq t.name name) as (λ b. (if b then sli
 -- one more tag of those before it is completed
 pub one_completed : (name : List ℕ) (tags : List UnitTag) (i : ℕ) → i < length tags →
     completed_at name i (completed (take i tags) name ++ drop i tags) ≡ completed (take (i + 1) tags) name ++ drop (i + 1) tags
-one_completed name [] i h = absurd (omega (arith, h))
-one_completed name (t ∷ ts) zero h = first-completed name t ts
-one_completed name (t ∷ ts) (suc i) h =
-    shift name i (completed_tag name t) (completed (take i ts) name ++ drop i ts) ∙ ap (λ xs. completed_tag name t ∷ xs) (one_completed name ts i (omega (arith, h)))
+one_completed name tags i h = next-completed name tags i h ∙ ap (λ n. completed (take n tags) name ++ drop n tags) (sym (add-one i))
+  where
+    next-completed : (name : List ℕ) (tags : List UnitTag) (i : ℕ) → i < length tags →
+        completed_at name i (completed (take i tags) name ++ drop i tags) ≡ completed (take (suc i) tags) name ++ drop (suc i) tags
+    next-completed name [] i h = absurd (omega (arith, h))
+    next-completed name (t ∷ ts) zero h = first-completed name t ts
+    next-completed name (t ∷ ts) (suc i) h =
+        shift name i (completed_tag name t) (completed (take i ts) name ++ drop i ts) ∙ ap (λ xs. completed_tag name t ∷ xs) (next-completed name ts i (omega (arith, h)))
 
 -- at the end all are
 pub all_completed : (name : List ℕ) (tags : List UnitTag) (i : ℕ) → length tags ≤ i → completed (take i tags) name ++ drop i tags ≡ completed tags name
-all_completed name [] i h = grind arith
+all_completed name [] zero h = refl
+all_completed name [] (suc i) h = refl
 all_completed name (t ∷ ts) zero h = absurd (omega (arith, h))
 all_completed name (t ∷ ts) (suc i) h = ap (λ xs. completed_tag name t ∷ xs) (all_completed name ts i (omega (arith, h)))

@@ -2,3 +2,4 @@ pub mod NumberLaws
 pub mod FieldLaws
 pub mod LoopEnds
 pub mod PartLaws
+pub mod TakenLaws

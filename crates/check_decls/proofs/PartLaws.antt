@@ -1,5 +1,6 @@
 -- Steps of a path and constants of a list, one more at a time.
-use Rattle.std.proofs.Common.{◌≡◌, ℕ, ◌+◌, ◌-◌, ◌<◌, ◌≤◌, suc, zero, List, [], ◌∷◌, ◌++◌, map, drop, length, get_or, Result, Ok, Err, refl, sym, ap, ◌∙◌, arith, append_assoc, append-nil}
+use Rattle.std.proofs.Common.{◌≡◌, ℕ, ◌+◌, ◌-◌, ◌<◌, ◌≤◌, suc, zero, List, [], ◌∷◌, ◌++◌, map, drop, length, get_or, Result, Ok, Err, refl, sym, ap, ◌∙◌, arith, append_assoc, append-nil, false, if◌then◌else◌, ◌==◌}
+use Rattle.std.proofs.lemmas.Bool.Decides.{nat_tests}
 use Rattle.std.proofs.lemmas.List.{drop_all}
 use Rattle.c_types.specs.declared.types.Ty.{Ty}
 use Rattle.c_types.specs.declared.types.Types.{Types}
@@ -10,7 +11,9 @@ use Rattle.c_program.specs.declared.program.PathStep.{PathStep}
 use Rattle.c_program.specs.declared.program.Constant.{Constant}
 use Rattle.c_typing.specs.declared.faults.Fault.{Fault}
 use Rattle.c_typing.specs.declared.faults.TypeKind.TheVariants as kind
-use Rattle.c_typing.specs.Visits.{fault, and_then}
+use Rattle.c_typing.specs.declared.faults.Refusal.{Refusal}
+use Rattle.c_typing.specs.declared.faults.Refusal.TheVariants as refusal
+use Rattle.c_typing.specs.Visits.{fault, and_then, Tells}
 use Rattle.c_typing.specs.Initials.{InitVisit, Part, one_step, part_by_steps, listed, for_fields, for_elements}
 use Rattle.c_typing.proofs.LoopLaws.{rest_is}
 use Rattle.check_decls.specs.Steps.{path_behind, list_behind}
@@ -116,8 +119,10 @@ elements-step : (at n i : ℕ) (ty : Ty) (v : InitVisit) (vs : List InitVisit) �
     for_elements at (n - i) ty (v ∷ vs) ≡ listed (v ty) (for_elements at (n - (i + 1)) ty vs)
 unfolding for_elements
 elements-step at n i ty v vs h =
-    let some : n - i ≡ suc (n - (i + 1)) = omega (arith, h) in
-    rw some refl
+    let some : (n - i == 0) ≡ false = grind (arith, nat_tests) in
+    let less : n - i - 1 ≡ n - (i + 1) = omega arith in
+    ap (λ b. if b then Err (fault kind.BadInitial at) else listed (v ty) (for_elements at (n - i - 1) ty vs)) some
+    ∙ ap (λ m. listed (v ty) (for_elements at m ty vs)) less
 
 -- one more value of an array
 pub elements_more : (at n : ℕ) (ty : Ty) (visit : Init → InitVisit) (vs : List Init) (i : ℕ) (v : Init) (front next : List Constant) (c : Constant) →
@@ -153,3 +158,17 @@ pub elements_ended : (at n : ℕ) (ty : Ty) (visit : Init → InitVisit) (vs : L
 unfolding for_elements
 elements_ended at n ty visit vs i front h =
     ap (λ ys. list_behind front (for_elements at (n - i) ty (map visit ys))) (drop_all i vs h) ∙ ap Ok (append-nil front)
+
+-- a call for a value refused: so does the whole
+
+pub fields_left : (at : ℕ) (fs : List FieldDef) (visit : Init → InitVisit) (vs : List Init) (i : ℕ) (f : FieldDef) (v : Init) (front : List Constant) (e : Refusal) (whole : Result (List Constant) Fault) →
+    i < length fs → f ≡ get_or fs i f → i < length vs → v ≡ get_or vs i v → Tells (visit v f.ty) (Err e) →
+    list_behind front (for_fields at (drop i fs) (map visit (drop i vs))) ≡ whole → Tells whole (Err e)
+fields_left at fs visit vs i f v front (refusal.Fault x) whole h w k u r inv = sym inv ∙ fields_failed at fs visit vs i f v front x h w k u r
+fields_left at fs visit vs i f v front refusal.NoMemory whole h w k u r inv = tt
+
+pub elements_left : (at n : ℕ) (ty : Ty) (visit : Init → InitVisit) (vs : List Init) (i : ℕ) (v : Init) (front : List Constant) (e : Refusal) (whole : Result (List Constant) Fault) →
+    i < n → i < length vs → v ≡ get_or vs i v → Tells (visit v ty) (Err e) →
+    list_behind front (for_elements at (n - i) ty (map visit (drop i vs))) ≡ whole → Tells whole (Err e)
+elements_left at n ty visit vs i v front (refusal.Fault x) whole h k u r inv = sym inv ∙ elements_failed at n ty visit vs i v front x h k u r
+elements_left at n ty visit vs i v front refusal.NoMemory whole h k u r inv = tt

@@ -1,12 +1,16 @@
 -- Steps of the checker's own loops and look-ups, each a part of a rule.
-use Rattle.std.specs.Prelude.{◌≡◌, ℕ, Bool, true, List, [], ◌∷◌, ◌++◌, Option, Some, None, Result, Ok, Err, slice_get, slice_set, bytes_eq, if◌then◌else◌}
+use Rattle.std.specs.Prelude.{◌≡◌, ℕ, ℤ, Bool, true, List, [], ◌∷◌, ◌++◌, Option, Some, None, Result, Ok, Err, slice_get, slice_set, bytes_eq, if◌then◌else◌}
 use Rattle.c_types.specs.declared.types.Ty.{Ty}
 use Rattle.c_types.specs.declared.types.FieldDef.{FieldDef}
 use Rattle.c_types.specs.declared.types.StructDef.{StructDef}
 use Rattle.c_typing.specs.declared.faults.Fault.{Fault}
 use Rattle.c_typing.specs.declared.faults.TypeKind.TheVariants as kind
 use Rattle.c_tree.specs.declared.expressions.Name.{Name}
-use Rattle.c_typing.specs.Visits.{fault}
+use Rattle.c_typing.specs.declared.scopes.Meaning.TheVariants.{Adjustor}
+use Rattle.c_typing.specs.declared.tables.Progress.{Progress}
+use Rattle.c_program.specs.declared.expressions.Target.{Target}
+use Rattle.c_typing.specs.Externals.{declare}
+use Rattle.c_typing.specs.Visits.{Visit, fault, ◌>>=◌}
 use Rattle.c_typing.specs.declared.faults.Refusal.{Refusal}
 use Rattle.c_typing.specs.declared.faults.Refusal.TheVariants as refusal
 use Rattle.c_typing.specs.declared.scopes.UnitTag.{UnitTag}
@@ -16,6 +20,8 @@ use Rattle.c_typing.specs.Statements.{Scoped}
 use Rattle.c_program.specs.declared.program.PathStep.{PathStep}
 use Rattle.c_program.specs.declared.program.Constant.{Constant}
 use Rattle.c_typing.specs.Initials.{Part}
+use Rattle.c_types.specs.declared.types.Span.{Span}
+use Rattle.c_typing.specs.Adjustors.{is_amount, amount_of, define_adjustor}
 use Rattle.c_typing.specs.Structs.{same_fields}
 
 -- a tag is complete where it has the name
@@ -76,3 +82,18 @@ list_behind front (Err e) = Err e
 
 abbrev pub part_of : List PathStep → Ty → Part
 part_of path ty = record { ty = ty; steps = path }
+
+-- the number that an adjustor adds, where it may be one
+abbrev pub amount_in : Option Span → ℕ → Option ℤ
+amount_in minus n = if is_amount minus n then Some (amount_of minus n) else None
+
+-- a call's answer without its value
+abbrev pub told : {A : Type 0} → Result A Refusal → Result (Unit {0}) Refusal
+told (Ok x) = Ok tt
+told (Err e) = Err e
+
+-- an adjustor with this target, its type's place, and what it changes by how much
+abbrev pub placed_adjustor : ℕ → List ℕ → (Target × ℕ) → (ℕ × ℤ) → Visit Progress (Unit {0})
+placed_adjustor unit name f a =
+    define_adjustor (λ so. record { name = name; ty = f.1; unit = unit; number = so.defined; target = f.0; parameter = a.0; amount = a.1 }) >>= (λ k.
+    declare name (Adjustor k f.1))

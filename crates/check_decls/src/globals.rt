@@ -1,10 +1,10 @@
 ghost use Rattle.std.specs.Prelude.{◌≡◌, [], ◌∷◌, ◌++◌, OnOk, length};
 ghost use Rattle.c_typing.specs.Visits.{Leaves, Tells};
 ghost use Rattle.c_typing.specs.TypeForms.{declared_type};
-ghost use Rattle.c_typing.specs.Structs.{with_scope};
+ghost use Rattle.c_typing.specs.UnitVisits.{with_scope};
 ghost use Rattle.c_typing.specs.Externals.{global_named, found_global, enter_global, declare_global, has_global_body, no_new_global, define_global, visit_global, visit_globals, visit_extern};
 
-use crate::forms::{declared_type_of, is_same_type, refusal, small_place};
+use check_types::{declared_type_of, is_same_type, refusal, small_place};
 use crate::initials::optional_constant;
 use crate::names::{check_untaken, declare_name, find_global, is_no_global};
 use c_program::{Constant, GlobalBody, GlobalDef};
@@ -31,7 +31,7 @@ fn new_global(
 }
 
 /// The place of a global of this type in the program.
-#[tactic(auto, unfolding(c_typing::specs::Externals::enter_global))]
+#[tactic(auto, unfolding(c_typing::specs::Externals::enter_global), using(crate::proofs::TakenLaws::global_differs))]
 fn enter(alloc: Global, name: &Name, ty: Ty, state: &mut Progress) -> Result<u32, Refusal>
     ensures { Leaves (enter_global name.now ty state.old) result state.new }
 {
@@ -39,13 +39,17 @@ fn enter(alloc: Global, name: &Name, ty: Ty, state: &mut Progress) -> Result<u32
         return Ok(new_global(alloc, name, ty, &mut state.globals)?);
     };
     match state.globals.get(place) {
-        Some(d) if is_same_type(d.ty, ty) => Ok(small_place(place)?),
-        Some(_) => Err(refusal(TypeKind::Redeclared, name.span.start)),
+        Some(d) => {
+            if is_same_type(d.ty, ty) {
+                return Ok(small_place(place)?);
+            }
+            Err(refusal(TypeKind::Redeclared, name.span.start))
+        }
         None => Ok(new_global(alloc, name, ty, &mut state.globals)?),
     }
 }
 
-#[tactic(auto, unfolding(c_typing::specs::Structs::with_scope))]
+#[tactic(auto, unfolding(c_typing::specs::UnitVisits::with_scope))]
 fn scoped_type(base: &Base, decl: &Decl, state: &mut Progress) -> Result<Ty, Refusal>
     ensures { Leaves (with_scope (λ unit. declared_type unit base.now decl.now) state.old) result state.new }
 {
@@ -112,7 +116,6 @@ fn define(
     Ok(())
 }
 
-#[tactic(auto, unfolding(c_typing::specs::Externals::declare_global, c_typing::specs::Externals::unless_taken))]
 fn declare_new(
     alloc: Global,
     base: &Base,

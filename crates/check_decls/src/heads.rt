@@ -6,7 +6,7 @@ ghost use Rattle.c_typing.specs.Statements.{enter_local, free_name, in_scopes};
 ghost use Rattle.c_typing.specs.Heads.{base_at, param_at, param_type, param_types, free_param, with_param, visit_parameter, visit_parameters, head_type, is_int, is_register_size, gives_word, may_be_variadic, variadic_fits, check_variadic};
 ghost use Rattle.check_decls.specs.Steps.{LeavesOne, LeavesAll};
 
-use crate::forms::{
+use check_types::{
     enter_fun_type, is_name_taken, is_same_type, object_type_of, refusal, result_type_of,
     small_place,
 };
@@ -43,7 +43,7 @@ fn type_of_param(unit: &UnitScope, p: &Param, tables: &mut Tables) -> Result<Ty,
 }
 
 /// The types of the parameters of a head without a body, whose names mean nothing.
-#[tactic(auto, using(c_typing::proofs::LoopLaws::each_more, c_typing::proofs::LoopLaws::each_failed, c_typing::proofs::LoopLaws::each_done, c_typing::proofs::LoopLaws::each_begun))]
+#[tactic(auto, unfolding(c_typing::specs::Heads::param_types), using(c_typing::proofs::LoopLaws::each_begun, c_typing::proofs::LoopLaws::each_kept, c_typing::proofs::LoopLaws::each_left, c_typing::proofs::LoopLaws::each_whole))]
 pub fn types_of_params(
     alloc: Global,
     unit: &UnitScope,
@@ -168,7 +168,7 @@ fn enter_parameter(
 /// # Errors
 ///
 /// The first fault in them, or want of memory.
-#[tactic(auto, using(c_typing::proofs::LoopLaws::scopes_more, c_typing::proofs::LoopLaws::scopes_failed, c_typing::proofs::LoopLaws::scopes_done, c_typing::proofs::LoopLaws::scopes_begun))]
+#[tactic(auto, using(c_typing::proofs::LoopLaws::scopes_begun, crate::proofs::LoopEnds::scopes_pushed, crate::proofs::LoopEnds::scopes_given_up, c_typing::proofs::LoopLaws::scopes_whole))]
 pub fn enter_parameters(
     alloc: Global,
     unit: &UnitScope,

@@ -1,10 +1,11 @@
 ghost use Rattle.std.specs.Prelude.{◌≡◌, IfOk, map};
 ghost use Rattle.c_typing.specs.Visits.{Tells, fault};
 ghost use Rattle.c_typing.specs.declared.faults.TypeKind.TheVariants.{BadInitial};
+ghost use Rattle.c_typing.specs.TypeForms.{fields_at};
 ghost use Rattle.c_typing.specs.Initials.{chars, text_in, text_at, function_at, address_at, name_means, name_at, for_fields, for_elements, list_at, start_or, visit_init, visit_optional_init};
 ghost use Rattle.check_decls.specs.Steps.{part_of};
 
-use crate::forms::{bytes, fields_of, find_meaning, find_service, is_same_type, refusal, type_at};
+use check_types::{bytes, find_meaning, find_service, is_same_type, refusal, type_at};
 use crate::numbers::{char_constant, number_constant, number_of};
 use crate::paths::{check_no_part, path_of};
 use c_program::{Constant, PathStep, Target};
@@ -13,6 +14,15 @@ use c_types::{FieldDef, IntTy, Span, Ty, Types};
 use c_typing::{Meaning, Refusal, TypeKind, UnitScope};
 use hx_words::{Boxed, Items};
 use std::alloc::{AllocError, Global};
+
+fn fields_of(types: &Types, place: u32) -> &[FieldDef]
+    ensures { result.now ≡ fields_at types.now place }
+{
+    match types.structs.get(place as usize) {
+        Some(s) => s.fields.as_slice(),
+        None => &[],
+    }
+}
 
 fn bad_initial(at: u32) -> Result<Constant, Refusal>
     ensures { Tells (Err (fault BadInitial at)) result }

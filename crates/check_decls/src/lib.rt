@@ -1,7 +1,9 @@
 //! Declarations that need no expressions.
 #![tactic(auto)]
 
-mod forms;
+
+mod adjustors;
+mod functions;
 mod globals;
 mod heads;
 mod initials;
@@ -10,6 +12,8 @@ mod numbers;
 mod paths;
 mod structs;
 
+pub use adjustors::define_adjustment;
+pub use functions::{declare_head, declare_new_head, declare_typedef, define_body, enclosing, next_number, start_body};
 pub use globals::{declare_extern, define_globals};
 pub use heads::{types_of_params, check_free, declare_local, enter_head, enter_parameters, check_variadic_type, number_local};
 pub use names::{check_untaken, declare_name, is_no_adjustor, is_no_function, is_no_global, is_no_typedef};

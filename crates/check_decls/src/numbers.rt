@@ -4,7 +4,7 @@ ghost use Rattle.c_typing.specs.Visits.{Tells};
 ghost use Rattle.c_typing.specs.Conversions.{number_in};
 ghost use Rattle.c_typing.specs.Initials.{written, is_null_literal, number_at, char_at};
 
-use crate::forms::refusal;
+use check_types::refusal;
 use c_program::Constant;
 use c_tree::Literal;
 use c_types::{IntTy, Span, Ty};

@@ -3,7 +3,7 @@ ghost use Rattle.c_typing.specs.Visits.{Tells};
 ghost use Rattle.c_typing.specs.Initials.{field_in, element_in, one_step, part_by_steps, no_part};
 ghost use Rattle.check_decls.specs.Steps.{TellsStep, TellsPart};
 
-use crate::forms::{find_field, refusal, small_place, type_at};
+use check_types::{find_field, refusal, small_place, type_at};
 use c_program::PathStep;
 use c_tree::{Name, Step};
 use c_types::{Ty, Types};

@@ -2,19 +2,17 @@ ghost use Rattle.std.specs.Prelude.{◌≡◌, [], OnOk, IfOk, slice_get, slice_
 ghost use Rattle.c_types.specs.Layout.{extent_of};
 ghost use Rattle.c_typing.specs.Visits.{Leaves, Tells};
 ghost use Rattle.c_typing.specs.TypeForms.{most_bytes, is_within, place_in, grown};
-ghost use Rattle.c_typing.specs.Structs.{is_field, visit_field, visit_field_decls, visit_fields, struct_named, unknown_struct, begin_struct, same_fields, completed, is_complete, with_fields, end_struct, with_scope, visit_struct};
+ghost use Rattle.c_typing.specs.Structs.{is_field, visit_field, visit_field_decls, visit_fields, struct_named, unknown_struct, begin_struct, same_fields, completed, is_complete, with_fields, end_struct, visit_struct};
+ghost use Rattle.c_typing.specs.UnitVisits.{with_scope};
 ghost use Rattle.c_typing.specs.Scopes.{tag_in};
 ghost use Rattle.check_decls.specs.Steps.{completed_at, compared_fields};
 
-use crate::forms::{declared_type_of, find_tag, is_same_type, refusal, small_place};
+use check_types::{MOST_BYTES, declared_type_of, find_tag, is_same_type, refusal, small_place};
 use c_tree::{Base, Decl, Field, Name};
 use c_types::{FieldDef, StructDef, Ty, Types, layout};
 use c_typing::{Progress, Refusal, Tables, TypeKind, UnitScope, UnitTag};
 use hx_words::Items;
 use std::alloc::{AllocError, Global};
-
-/// No array and no struct has more bytes.
-const MOST_BYTES: u64 = 33_554_432;
 
 fn has_field(fields: &[FieldDef], name: &[u8]) -> bool
     ensures { result ≡ is_field fields.now name.now }
@@ -173,7 +171,7 @@ fn complete_at(
     Ok(())
 }
 
-#[tactic(auto, using(crate::proofs::FieldLaws::one_completed))]
+#[tactic(auto, using(crate::proofs::FieldLaws::one_completed, crate::proofs::FieldLaws::all_completed))]
 fn complete_tags(alloc: Global, name: &[u8], tags: &mut Items<UnitTag>) -> Result<(), AllocError>
     ensures { OnOk result (tags.new ≡ completed tags.old name.now) }
 {
@@ -268,7 +266,7 @@ fn is_complete_tag(unit: &UnitScope, name: &[u8]) -> bool
     }
 }
 
-#[tactic(auto, unfolding(c_typing::specs::Structs::with_scope))]
+#[tactic(auto, unfolding(c_typing::specs::UnitVisits::with_scope))]
 fn fields_in_scope(
     alloc: Global,
     groups: &[Field],
