@@ -3,3 +3,4 @@ pub mod FieldLaws
 pub mod LoopEnds
 pub mod PartLaws
 pub mod TakenLaws
+pub mod AdjustorLaws

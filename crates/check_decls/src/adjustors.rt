@@ -52,7 +52,11 @@ fn is_integer_at(params: &[Ty], n: u64) -> bool
 fn register_count(types: &Types, f: &FunTy) -> u64
     ensures { result ≡ (if gives_word types.now f.now.result then 4 else 3) }
 {
-    if is_word_result(types, f.result) { 4 } else { 3 }
+    if is_word_result(types, f.result) {
+        4
+    } else {
+        3
+    }
 }
 
 fn is_last_of_variadic(f: &FunTy, n: u64) -> bool

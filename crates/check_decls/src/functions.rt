@@ -28,11 +28,7 @@ fn scoped_param_types(
 }
 
 #[tactic(auto, unfolding(c_typing::specs::UnitVisits::with_scope))]
-fn scoped_head(
-    head: &FunctionHead,
-    params: Items<Ty>,
-    state: &mut Progress,
-) -> Result<u32, Refusal>
+fn scoped_head(head: &FunctionHead, params: Items<Ty>, state: &mut Progress) -> Result<u32, Refusal>
     ensures { Leaves (with_scope (λ unit. head_type unit head.now params) state.old) result state.new }
 {
     let place = enter_head(&state.scope, head, params, &mut state.tables)?;
@@ -144,11 +140,7 @@ fn declare_old(
 ///
 /// The first fault in it, or want of memory.
 #[tactic(auto, unfolding(c_typing::specs::Externals::visit_declaration, c_typing::specs::Visits::followed, c_typing::specs::Visits::give))]
-pub fn declare_head(
-    alloc: Global,
-    head: &FunctionHead,
-    state: &mut Progress,
-) -> Result<(), Refusal>
+pub fn declare_head(alloc: Global, head: &FunctionHead, state: &mut Progress) -> Result<(), Refusal>
     ensures { Leaves (visit_declaration head.now state.old) result state.new }
 {
     let params = scoped_param_types(alloc, head, state)?;

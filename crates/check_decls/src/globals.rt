@@ -4,13 +4,13 @@ ghost use Rattle.c_typing.specs.TypeForms.{declared_type};
 ghost use Rattle.c_typing.specs.UnitVisits.{with_scope};
 ghost use Rattle.c_typing.specs.Externals.{global_named, found_global, enter_global, declare_global, has_global_body, no_new_global, define_global, visit_global, visit_globals, visit_extern};
 
-use check_types::{declared_type_of, is_same_type, refusal, small_place};
 use crate::initials::optional_constant;
 use crate::names::{check_untaken, declare_name, find_global, is_no_global};
 use c_program::{Constant, GlobalBody, GlobalDef};
 use c_tree::{Base, Decl, GlobalDecl, Name};
 use c_types::Ty;
 use c_typing::{Meaning, Progress, Refusal, TypeKind};
+use check_types::{declared_type_of, is_same_type, refusal, small_place};
 use hx_words::{Boxed, Items};
 use std::alloc::Global;
 
@@ -112,7 +112,9 @@ fn define(
     let ty = d.ty;
     let name = Items::from_slice(alloc, d.name.as_slice())?;
     let body = Some(GlobalBody { unit, init });
-    state.globals.set(place as usize, GlobalDef { name, ty, body });
+    state
+        .globals
+        .set(place as usize, GlobalDef { name, ty, body });
     Ok(())
 }
 

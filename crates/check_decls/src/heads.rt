@@ -6,13 +6,13 @@ ghost use Rattle.c_typing.specs.Statements.{enter_local, free_name, in_scopes};
 ghost use Rattle.c_typing.specs.Heads.{base_at, param_at, param_type, param_types, free_param, with_param, visit_parameter, visit_parameters, head_type, is_int, is_register_size, gives_word, may_be_variadic, variadic_fits, check_variadic};
 ghost use Rattle.check_decls.specs.Steps.{LeavesOne, LeavesAll};
 
+use c_tree::{Base, FunctionHead, Name, Param};
+use c_types::{FunTy, IntTy, Ty, Types, size};
+use c_typing::{LocalMeaning, LocalName, LocalScope, Refusal, Tables, TypeKind, UnitScope};
 use check_types::{
     enter_fun_type, is_name_taken, is_same_type, object_type_of, refusal, result_type_of,
     small_place,
 };
-use c_tree::{Base, FunctionHead, Name, Param};
-use c_types::{FunTy, IntTy, Ty, Types, size};
-use c_typing::{LocalMeaning, LocalName, LocalScope, Refusal, Tables, TypeKind, UnitScope};
 use hx_words::Items;
 use std::alloc::{AllocError, Global};
 

@@ -5,13 +5,13 @@ ghost use Rattle.c_typing.specs.TypeForms.{fields_at};
 ghost use Rattle.c_typing.specs.Initials.{chars, text_in, text_at, function_at, address_at, name_means, name_at, for_fields, for_elements, list_at, start_or, visit_init, visit_optional_init};
 ghost use Rattle.check_decls.specs.Steps.{part_of};
 
-use check_types::{bytes, find_meaning, find_service, is_same_type, refusal, type_at};
 use crate::numbers::{char_constant, number_constant, number_of};
 use crate::paths::{check_no_part, path_of};
 use c_program::{Constant, PathStep, Target};
 use c_tree::{Init, Name, Step};
 use c_types::{FieldDef, IntTy, Span, Ty, Types};
 use c_typing::{Meaning, Refusal, TypeKind, UnitScope};
+use check_types::{bytes, find_meaning, find_service, is_same_type, refusal, type_at};
 use hx_words::{Boxed, Items};
 use std::alloc::{AllocError, Global};
 
@@ -255,9 +255,7 @@ fn constant_of(
             Ok(number_constant(at, *minus, *n, ty)?)
         }
         Init::Char(c, at) => Ok(char_constant(at.start, *c, ty)?),
-        Init::Text(text, at) => {
-            Ok(text_constant(alloc, at.start, types, text.as_slice(), ty)?)
-        }
+        Init::Text(text, at) => { Ok(text_constant(alloc, at.start, types, text.as_slice(), ty)?) }
         Init::Name(and, name, steps) => {
             Ok(name_constant(alloc, unit, types, *and, name, steps.as_slice(), ty)?)
         }

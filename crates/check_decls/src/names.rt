@@ -4,10 +4,10 @@ ghost use Rattle.c_typing.specs.Scopes.{is_typedef, meaning_in, with_name};
 ghost use Rattle.c_typing.specs.Externals.{global_named, function_named, adjustor_named, is_reserved, no_global, no_function, no_adjustor, no_typedef, declare};
 ghost use Rattle.check_decls.specs.Steps.{unless};
 
-use check_types::{find_meaning, find_service, is_import_slot_name, refusal};
 use c_program::{AdjustDef, FunDef, GlobalDef};
 use c_tree::Name;
 use c_typing::{Meaning, Progress, Refusal, TypeKind, UnitName, UnitScope};
+use check_types::{find_meaning, find_service, is_import_slot_name, refusal};
 use hx_words::Items;
 use std::alloc::{AllocError, Global};
 

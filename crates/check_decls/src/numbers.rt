@@ -4,11 +4,11 @@ ghost use Rattle.c_typing.specs.Visits.{Tells};
 ghost use Rattle.c_typing.specs.Conversions.{number_in};
 ghost use Rattle.c_typing.specs.Initials.{written, is_null_literal, number_at, char_at};
 
-use check_types::refusal;
 use c_program::Constant;
 use c_tree::Literal;
 use c_types::{IntTy, Span, Ty};
 use c_typing::{Refusal, TypeKind};
+use check_types::refusal;
 
 /// A negative number of so many bits, half of whose numbers are below the given one, in 64 bits.
 fn extended(low: u64, half: u64) -> u64

@@ -3,11 +3,11 @@ ghost use Rattle.c_typing.specs.Visits.{Tells};
 ghost use Rattle.c_typing.specs.Initials.{field_in, element_in, one_step, part_by_steps, no_part};
 ghost use Rattle.check_decls.specs.Steps.{TellsStep, TellsPart};
 
-use check_types::{find_field, refusal, small_place, type_at};
 use c_program::PathStep;
 use c_tree::{Name, Step};
 use c_types::{Ty, Types};
 use c_typing::{Refusal, TypeKind};
+use check_types::{find_field, refusal, small_place, type_at};
 use hx_words::Items;
 use std::alloc::Global;
 

@@ -7,10 +7,10 @@ ghost use Rattle.c_typing.specs.UnitVisits.{with_scope};
 ghost use Rattle.c_typing.specs.Scopes.{tag_in};
 ghost use Rattle.check_decls.specs.Steps.{completed_at, compared_fields};
 
-use check_types::{MOST_BYTES, declared_type_of, find_tag, is_same_type, refusal, small_place};
 use c_tree::{Base, Decl, Field, Name};
 use c_types::{FieldDef, StructDef, Ty, Types, layout};
 use c_typing::{Progress, Refusal, Tables, TypeKind, UnitScope, UnitTag};
+use check_types::{MOST_BYTES, declared_type_of, find_tag, is_same_type, refusal, small_place};
 use hx_words::Items;
 use std::alloc::{AllocError, Global};
 
@@ -96,11 +96,7 @@ fn new_struct(alloc: Global, name: &[u8]) -> Result<StructDef, AllocError>
 }
 
 /// The place of the struct of this tag, which gets the next one where there is none yet.
-fn enter_struct(
-    alloc: Global,
-    name: &[u8],
-    structs: &mut Items<StructDef>,
-) -> Result<u32, Refusal>
+fn enter_struct(alloc: Global, name: &[u8], structs: &mut Items<StructDef>) -> Result<u32, Refusal>
     ensures place { Tells (Ok (place_in structs.old (struct_named structs.old name.now))) result }
     ensures grown { OnOk result (structs.new ≡ grown structs.old (unknown_struct name.now) (struct_named structs.old name.now)) }
 {
@@ -140,7 +136,9 @@ fn are_same_fields(left: &[FieldDef], right: &[FieldDef]) -> bool
         return false;
     }
     for (k, field) in left.iter().enumerate() {
-        if field.name.as_slice() != right[k].name.as_slice() || !is_same_type(field.ty, right[k].ty) {
+        if field.name.as_slice() != right[k].name.as_slice()
+            || !is_same_type(field.ty, right[k].ty)
+        {
             return false;
         }
     }
@@ -247,7 +245,11 @@ fn end(
     if is_complete_tag(&state.scope, name) {
         return Err(refusal(TypeKind::Redeclared, at));
     }
-    match compare_fields(state.tables.types.structs.as_slice(), place, fields.as_slice()) {
+    match compare_fields(
+        state.tables.types.structs.as_slice(),
+        place,
+        fields.as_slice(),
+    ) {
         Some(true) => {
             complete_tags(alloc, name, &mut state.scope.tags)?;
             Ok(())
@@ -294,6 +296,13 @@ pub fn define_struct(
 {
     let place = begin(alloc, name.text.as_slice(), state)?;
     let fields = fields_in_scope(alloc, groups, state)?;
-    end(alloc, name.span.start, name.text.as_slice(), place, fields, state)?;
+    end(
+        alloc,
+        name.span.start,
+        name.text.as_slice(),
+        place,
+        fields,
+        state,
+    )?;
     Ok(())
 }
