@@ -1,7 +1,7 @@
 -- Arguments, one more at a time.
-use Rattle.std.proofs.Common.{◌≡◌, ℕ, ◌+◌, ◌≤◌, suc, zero, List, [], ◌∷◌, ◌++◌, map, drop, reverse, length, Option, Some, None, refl, sym, ap, ◌∙◌, add-one, append_assoc, append-nil, length-append}
+use Rattle.std.proofs.Common.{◌≡◌, ℕ, suc, zero, List, [], ◌∷◌, ◌++◌, drop, reverse, length, Option, Some, None, refl, sym, ap, ◌∙◌, add-one, append_assoc, append-nil, length-append}
 use Rattle.std.specs.Prelude.{slice_get, option_map, option_and_then}
-use Rattle.std.proofs.lemmas.List.{reverse-append, reverse-reverse, length_push}
+use Rattle.std.proofs.lemmas.List.{reverse-append, reverse-reverse}
 use Rattle.c_types.specs.declared.types.Ty.{Ty}
 use Rattle.c_program.specs.declared.expressions.TypedExpr.{TypedExpr}
 use Rattle.c_typing.specs.declared.operands.Value.{Value}

@@ -1,5 +1,5 @@
 -- Calls of a function of a type, from what is passed to it.
-use Rattle.std.proofs.Common.{◌≡◌, ℕ, List, Option, Some, None, Result, Ok, Err, refl, sym, ap, ◌∙◌}
+use Rattle.std.proofs.Common.{◌≡◌, ℕ, List, Option, Some, None, Result, Ok, Err, refl, ap, ◌∙◌}
 use Rattle.std.specs.Prelude.{slice_get, length, ◌-◌}
 use Rattle.c_types.specs.declared.types.Ty.{Ty}
 use Rattle.c_types.specs.declared.types.FunTy.{FunTy}
@@ -10,7 +10,7 @@ use Rattle.c_typing.specs.declared.faults.Refusal.TheVariants as refusal
 use Rattle.c_typing.specs.declared.tables.Tables.{Tables}
 use Rattle.c_typing.specs.declared.operands.Operand.{Operand}
 use Rattle.c_typing.specs.declared.operands.Value.{Value}
-use Rattle.c_typing.specs.Visits.{followed, judged, changed, give, refuse, onward, and_then, Tells, Leaves}
+use Rattle.c_typing.specs.Visits.{followed, judged, changed, give, refuse, and_then, Tells, Leaves}
 use Rattle.c_typing.specs.Expressions.{given, passed, with_extras, call_of, call_at}
 use Rattle.check_expr.specs.declared.arguments.Passed.{Passed}
 use Rattle.check_expr.specs.Calls.{passed_to}

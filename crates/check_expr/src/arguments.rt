@@ -172,7 +172,13 @@ pub fn pass_to(
         return Err(refusal(TypeKind::NotFunction, at));
     };
     let extras = values.len().saturating_sub(function.params.len());
-    let arguments = pass(alloc, at, function.params.as_slice(), function.variadic, values)?;
+    let arguments = pass(
+        alloc,
+        at,
+        function.params.as_slice(),
+        function.variadic,
+        values,
+    )?;
     Ok(Passed {
         arguments,
         result: function.result,

@@ -95,7 +95,14 @@ pub fn visit_expr(
         }
         Expr::Select(whole, selector, at, name) => {
             let operand = visit_expr(alloc, unit, locals, whole.get(), tables)?;
-            select(alloc, *selector, at.start, name.text.as_slice(), operand, tables)
+            select(
+                alloc,
+                *selector,
+                at.start,
+                name.text.as_slice(),
+                operand,
+                tables,
+            )
         }
         Expr::PostIncrement(part, at) => {
             let operand = visit_expr(alloc, unit, locals, part.get(), tables)?;
