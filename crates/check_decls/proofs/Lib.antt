@@ -1,0 +1,6 @@
+pub mod NumberLaws
+pub mod FieldLaws
+pub mod LoopEnds
+pub mod PartLaws
+pub mod TakenLaws
+pub mod AdjustorLaws

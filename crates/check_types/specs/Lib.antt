@@ -1,0 +1,2 @@
+pub mod FormedTypes
+pub mod Unlike
