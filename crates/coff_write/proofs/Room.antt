@@ -1,0 +1,18 @@
+-- What validity says of the sizes.
+use Rattle.std.proofs.Common.{◌≡◌, ℕ, ◌≤◌, Bool, true, ◌&&◌}
+use Rattle.std.specs.Prelude.{nat_le}
+use Rattle.std.proofs.lemmas.Bool.{leb-true, and_parts}
+use Rattle.coff_write.specs.declared.object.Object.{Object}
+use Rattle.coff_write.specs.Format.{section_count, file_size}
+use Rattle.coff_write.specs.Valid.{is_valid, fits, limit, short_places, valid_sections, valid_symbols, valid_rows, HasRoom}
+
+fits_room : (o : Object) → fits o ≡ true → HasRoom o
+unfolding fits
+fits_room o e =
+    let h = and_parts (nat_le (section_count o) 65535) (nat_le (file_size o) limit && short_places 4 o.sections) e in
+    let k = and_parts (nat_le (file_size o) limit) (short_places 4 o.sections) h.1 in
+    record { count = leb-true (section_count o) 65535 h.0; size = leb-true (file_size o) limit k.0 }
+
+pub valid_room : (o : Object) → is_valid o ≡ true → HasRoom o
+unfolding is_valid
+valid_room o e = fits_room o (and_parts (fits o) _ e).0
