@@ -33,7 +33,7 @@ is_reserved name = begins name (46 ∷ 112 ∷ 100 ∷ 97 ∷ 116 ∷ 97 ∷ [])
 
 -- ---- flags
 
-abbrev pub has_flag : ObjSection → ℕ → Bool
+unfoldable pub has_flag : ObjSection → ℕ → Bool
 has_flag s flag = not (bit_and s.flags flag == 0)
 
 -- IMAGE_SCN_CNT_UNINITIALIZED_DATA 0x80: zeros and no bytes, or bytes and no zeros
@@ -42,8 +42,11 @@ has_right_contents s = if has_flag s 128 then length s.bytes == 0 else s.zeros =
 
 -- none of IMAGE_SCN_LNK_INFO 0x200, IMAGE_SCN_LNK_REMOVE 0x800 and IMAGE_SCN_LNK_NRELOC_OVFL
 -- 0x01000000; IMAGE_SCN_LNK_COMDAT 0x1000 as the section says
+abbrev pub has_right_comdat : ObjSection → Bool
+has_right_comdat s = if s.comdat then has_flag s 4096 else not (has_flag s 4096)
+
 unfoldable pub has_right_flags : ObjSection → Bool
-has_right_flags s = not (has_flag s 16780800) && (if s.comdat then has_flag s 4096 else not (has_flag s 4096))
+has_right_flags s = not (has_flag s 16779776) && has_right_comdat s
 
 -- ---- sites
 
@@ -111,9 +114,12 @@ valid_body Arm64Ec home s = nat_lt s.value (section_size home) && has_flag home 
 abbrev pub is_body : ObjSymbol → Bool
 is_body s = s.external && (slice_index s.name 0 == 35)
 
+abbrev pub valid_in : ObjMachine → ObjSection → ObjSymbol → Bool
+valid_in machine home s = nat_le s.value (section_size home) && (if is_body s then valid_body machine home s else true)
+
 unfoldable pub valid_home : ObjMachine → Option ObjSection → ObjSymbol → Bool
 valid_home machine None s = false
-valid_home machine (Some home) s = nat_le s.value (section_size home) && (if is_body s then valid_body machine home s else true)
+valid_home machine (Some home) s = valid_in machine home s
 
 -- in no section, absolute and named by a site, or in a section
 unfoldable pub valid_place : Object → ℕ → ObjSymbol → Bool

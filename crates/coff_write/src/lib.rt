@@ -12,9 +12,9 @@ mod records;
 mod rows;
 //cfg
 //mod tests;
-//mod validity;
+mod validity;
 mod writing;
 
 pub use object::{HybridRow, ObjMachine, ObjSection, ObjSite, ObjSymbol, Object};
-//pub use validity::valid_object;
+pub use validity::valid_object;
 pub use writing::write;

@@ -18,7 +18,7 @@ pub fn cell(name: &[u8], k: usize) -> u8
 }
 
 /// A sum, counted up to [`CAP`].
-fn capped_sum(total: u64, more: u64) -> u64
+pub fn capped_sum(total: u64, more: u64) -> u64
     requires { total ≤ cap }
     ensures value { result ≡ min (total + more) cap }
     ensures bound { result ≤ cap }

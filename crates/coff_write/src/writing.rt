@@ -153,7 +153,7 @@ fn put_symbol_texts(out: &mut Vec<u8>, symbols: &[ObjSymbol]) -> Result<(), Allo
 }
 
 /// One section `.hybmp$x`, where there are rows for it.
-fn hybrid_count(rows: &[HybridRow]) -> u64
+pub fn hybrid_count(rows: &[HybridRow]) -> u64
     ensures value { result ≡ hybrid_sections rows.now }
     ensures bound { result ≤ 1 }
 {
