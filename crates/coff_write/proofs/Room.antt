@@ -1,10 +1,10 @@
 -- What validity says of the sizes.
-use Rattle.std.proofs.Common.{◌≡◌, ℕ, ◌≤◌, Bool, true, ◌&&◌, arith}
+use Rattle.std.proofs.Common.{◌≡◌, ℕ, ◌≤◌, true, ◌&&◌, arith}
 use Rattle.std.specs.Prelude.{nat_le, min, ◌+◌, ◌*◌}
 use Rattle.std.proofs.lemmas.Bool.{leb-true, and_parts}
 use Rattle.coff_write.specs.declared.object.Object.{Object}
 use Rattle.coff_write.specs.Format.{section_count, file_size, section_names_size}
-use Rattle.coff_write.specs.Valid.{is_valid, fits, limit, short_places, valid_sections, valid_symbols, valid_rows, HasRoom}
+use Rattle.coff_write.specs.Valid.{is_valid, fits, limit, short_places, HasRoom}
 
 fits_room : (o : Object) → fits o ≡ true → HasRoom o
 unfolding fits

@@ -3,7 +3,7 @@
 -- machine number of Arm64EC is that of winnt.h. This project's own are the order of the parts, the
 -- order of the names in the string table (sections, then symbols, none shared), the seven digits of
 -- a long section name, and the layout of `.hybmp$x`, which Microsoft's specification doesn't give.
-use Rattle.std.specs.Prelude.{ℕ, zero, suc, ◌+◌, ◌-◌, ◌*◌, ◌/◌, ◌%◌, Bool, true, false, not, ◌&&◌, ◌||◌, List, [], ◌∷◌, ◌++◌, length, map, take, nat_lt, nat_le, ◌==◌, slice_index, slice_get, Option, Some, None, if◌then◌else◌}
+use Rattle.std.specs.Prelude.{ℕ, zero, suc, ◌+◌, ◌*◌, ◌/◌, ◌%◌, Bool, false, not, ◌&&◌, ◌||◌, List, [], ◌∷◌, ◌++◌, length, take, nat_lt, nat_le, ◌==◌, slice_index, slice_get, Option, Some, None, if◌then◌else◌}
 use Rattle.std.specs.List.{concat}
 use Rattle.hx_words.specs.LittleEndian.{bytes_of}
 use Rattle.hx_names.specs.declared.pieces.SiteKind.{SiteKind}

@@ -1,6 +1,6 @@
 -- The objects that have a file. The limit of a file's size and the forms that are left out are this
 -- project's own.
-use Rattle.std.specs.Prelude.{◌≡◌, ◌≤◌, ℕ, zero, suc, ◌+◌, ◌-◌, ◌*◌, Bool, true, false, not, ◌&&◌, ◌||◌, List, [], ◌∷◌, length, take, nat_lt, nat_le, ◌==◌, slice_index, bit_and, Option, Some, None, if◌then◌else◌}
+use Rattle.std.specs.Prelude.{◌≡◌, ◌≤◌, ℕ, ◌+◌, Bool, true, false, not, ◌&&◌, ◌||◌, List, [], ◌∷◌, length, nat_lt, nat_le, ◌==◌, slice_index, bit_and, Option, Some, None, if◌then◌else◌}
 use Rattle.hx_names.specs.declared.pieces.SiteKind.{SiteKind}
 use Rattle.hx_names.specs.declared.pieces.SiteKind.TheVariants.{Nothing, Addr64, Addr32Nb, Rel32, Branch26, PageBaseRel21, PageOffset12A, PageOffset12L}
 use Rattle.coff_write.specs.declared.object.ObjMachine.{ObjMachine}

@@ -10,8 +10,8 @@
 mod object;
 mod records;
 mod rows;
-//cfg
-//mod tests;
+#[cfg(test)]
+mod tests;
 mod validity;
 mod writing;
 

@@ -190,12 +190,7 @@ fn class(external: bool) -> u8
 }
 
 #[tactic(auto, unfolding(crate::specs::Format::symbol_record))]
-fn put_symbol(
-    out: &mut Vec<u8>,
-    name: u64,
-    more: bool,
-    s: &ObjSymbol,
-) -> Result<(), AllocError>
+fn put_symbol(out: &mut Vec<u8>, name: u64, more: bool, s: &ObjSymbol) -> Result<(), AllocError>
     ensures { OnOk result (out.new.items ≡ out.old.items ++ symbol_record name more s.now) }
 {
     put_symbol_name(out, s.name.as_slice(), name)?;
@@ -356,11 +351,7 @@ pub fn put_count(out: &mut Vec<u8>, s: &ObjSection) -> Result<(), AllocError>
 
 /// A row of `.hybmp$x`.
 #[tactic(auto, unfolding(crate::specs::Format::hybrid_row))]
-pub fn put_hybrid_row(
-    out: &mut Vec<u8>,
-    records: &[u64],
-    r: &HybridRow,
-) -> Result<(), AllocError>
+pub fn put_hybrid_row(out: &mut Vec<u8>, records: &[u64], r: &HybridRow) -> Result<(), AllocError>
     ensures { OnOk result (out.new.items ≡ out.old.items ++ hybrid_row records.now r.now) }
 {
     put_dword(out, number(records, r.source))?;

@@ -44,11 +44,7 @@ fn past(at: Cursor, s: &ObjSection) -> Cursor
     }
 }
 
-fn put_sections(
-    out: &mut Vec<u8>,
-    start: Cursor,
-    sections: &[ObjSection],
-) -> Result<(), AllocError>
+fn put_sections(out: &mut Vec<u8>, start: Cursor, sections: &[ObjSection]) -> Result<(), AllocError>
     requires name { start.name + section_names_size sections.now ≤ cap }
     requires contents { start.contents + contents_size sections.now ≤ cap }
     requires rows { start.rows + 10 * rows_count sections.now ≤ cap }
@@ -71,11 +67,7 @@ fn put_contents(out: &mut Vec<u8>, sections: &[ObjSection]) -> Result<(), AllocE
     Ok(())
 }
 
-fn put_hybrid_rows(
-    out: &mut Vec<u8>,
-    records: &[u64],
-    rows: &[HybridRow],
-) -> Result<(), AllocError>
+fn put_hybrid_rows(out: &mut Vec<u8>, records: &[u64], rows: &[HybridRow]) -> Result<(), AllocError>
     ensures { OnOk result (out.new.items ≡ out.old.items ++ hybrid_rows records.now rows.now) }
 {
     for r in rows {
@@ -201,11 +193,7 @@ fn put_file_header(out: &mut Vec<u8>, o: &Object, p: &Places) -> Result<(), Allo
 }
 
 #[tactic(auto, unfolding(crate::specs::Format::hybrid_header))]
-fn put_hybrid_header(
-    out: &mut Vec<u8>,
-    place: u64,
-    rows: &[HybridRow],
-) -> Result<(), AllocError>
+fn put_hybrid_header(out: &mut Vec<u8>, place: u64, rows: &[HybridRow]) -> Result<(), AllocError>
     requires { 12 * length rows.now ≤ cap }
     ensures { OnOk result (out.new.items ≡ out.old.items ++ hybrid_header place rows.now) }
 {
@@ -297,12 +285,7 @@ fn put_string_part(out: &mut Vec<u8>, o: &Object, p: &Places) -> Result<(), Allo
 }
 
 #[tactic(auto, unfolding(crate::specs::Format::object_bytes))]
-fn put_parts(
-    out: &mut Vec<u8>,
-    o: &Object,
-    p: &Places,
-    records: &[u64],
-) -> Result<(), AllocError>
+fn put_parts(out: &mut Vec<u8>, o: &Object, p: &Places, records: &[u64]) -> Result<(), AllocError>
     requires room { HasRoom o.now }
     requires places { ArePlaces o.now p.now }
     requires records { records.now ≡ numbers o.now }

@@ -1,5 +1,4 @@
-use Rattle.std.proofs.Common.{◌≡◌, ◌+◌, ◌≤◌, ◌*◌, ◌++◌, drop}
-use Rattle.std.specs.Prelude.{min}
+use Rattle.std.proofs.Common.{◌≡◌, drop}
 use Rattle.coff_write.specs.Format.{has_start}
 use Rattle.coff_write.proofs.records.any_starts.Given as goal
 

@@ -1,4 +1,4 @@
-use Rattle.std.proofs.Common.{◌≡◌, ◌+◌, ◌≤◌, ◌*◌, ◌++◌, drop}
+use Rattle.std.proofs.Common.{◌≡◌, ◌+◌, ◌≤◌, drop}
 use Rattle.std.specs.Prelude.{min}
 use Rattle.coff_write.specs.Format.{rows_count, cap}
 use Rattle.coff_write.proofs.records.rows_len.Given as goal

@@ -1,4 +1,4 @@
-use Rattle.std.proofs.Common.{◌≡◌, ◌+◌, ◌≤◌, ◌*◌, ◌++◌, drop}
+use Rattle.std.proofs.Common.{◌≡◌, ◌+◌, ◌≤◌, drop}
 use Rattle.std.specs.Prelude.{min}
 use Rattle.coff_write.specs.Format.{section_names_size, cap}
 use Rattle.coff_write.proofs.records.section_names_len.Given as goal

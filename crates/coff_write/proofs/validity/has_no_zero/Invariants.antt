@@ -1,5 +1,4 @@
-use Rattle.std.proofs.Common.{◌≡◌, ◌+◌, ◌≤◌, drop}
-use Rattle.coff_write.specs.Format.{cap, section_names_size}
+use Rattle.std.proofs.Common.{◌≡◌, drop}
 use Rattle.coff_write.specs.Valid.{no_zero}
 use Rattle.coff_write.proofs.validity.has_no_zero.Given as goal
 

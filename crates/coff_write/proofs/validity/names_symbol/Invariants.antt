@@ -1,5 +1,4 @@
-use Rattle.std.proofs.Common.{◌≡◌, ◌+◌, ◌≤◌, drop}
-use Rattle.coff_write.specs.Format.{cap, section_names_size}
+use Rattle.std.proofs.Common.{◌≡◌, drop}
 use Rattle.coff_write.specs.Valid.{any_names}
 use Rattle.coff_write.proofs.validity.names_symbol.Given as goal
 

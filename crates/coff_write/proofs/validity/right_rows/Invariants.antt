@@ -1,5 +1,4 @@
-use Rattle.std.proofs.Common.{◌≡◌, ◌+◌, ◌≤◌, drop}
-use Rattle.coff_write.specs.Format.{cap, section_names_size}
+use Rattle.std.proofs.Common.{◌≡◌, drop}
 use Rattle.coff_write.specs.Valid.{valid_rows}
 use Rattle.coff_write.proofs.validity.right_rows.Given as goal
 

@@ -1,5 +1,4 @@
-use Rattle.std.proofs.Common.{◌≡◌, ◌+◌, ◌≤◌, drop}
-use Rattle.coff_write.specs.Format.{cap, section_names_size}
+use Rattle.std.proofs.Common.{◌≡◌, drop}
 use Rattle.coff_write.specs.Valid.{has_from}
 use Rattle.coff_write.proofs.validity.starts_with.Given as goal
 

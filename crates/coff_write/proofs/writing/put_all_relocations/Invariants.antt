@@ -1,4 +1,4 @@
-use Rattle.std.proofs.Common.{◌≡◌, ◌+◌, ◌≤◌, ◌*◌, ◌++◌, drop}
+use Rattle.std.proofs.Common.{◌≡◌, ◌++◌, drop}
 use Rattle.coff_write.specs.Format.{section_relocations}
 use Rattle.coff_write.proofs.writing.put_all_relocations.Given as goal
 

@@ -1,4 +1,4 @@
-use Rattle.std.proofs.Common.{◌≡◌, ◌+◌, ◌≤◌, ◌*◌, ◌++◌, drop}
+use Rattle.std.proofs.Common.{◌≡◌, ◌++◌, drop}
 use Rattle.coff_write.specs.Format.{hybrid_rows}
 use Rattle.coff_write.proofs.writing.put_hybrid_rows.Given as goal
 

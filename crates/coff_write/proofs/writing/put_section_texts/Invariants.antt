@@ -1,4 +1,4 @@
-use Rattle.std.proofs.Common.{◌≡◌, ◌+◌, ◌≤◌, ◌*◌, ◌++◌, drop}
+use Rattle.std.proofs.Common.{◌≡◌, ◌++◌, drop}
 use Rattle.coff_write.specs.Format.{section_texts}
 use Rattle.coff_write.proofs.writing.put_section_texts.Given as goal
 

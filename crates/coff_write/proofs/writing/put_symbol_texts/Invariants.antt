@@ -1,4 +1,4 @@
-use Rattle.std.proofs.Common.{◌≡◌, ◌+◌, ◌≤◌, ◌*◌, ◌++◌, drop}
+use Rattle.std.proofs.Common.{◌≡◌, ◌++◌, drop}
 use Rattle.coff_write.specs.Format.{symbol_texts}
 use Rattle.coff_write.proofs.writing.put_symbol_texts.Given as goal
 

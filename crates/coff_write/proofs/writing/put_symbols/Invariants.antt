@@ -1,4 +1,4 @@
-use Rattle.std.proofs.Common.{◌≡◌, ◌+◌, ◌≤◌, ◌*◌, ◌++◌, drop}
+use Rattle.std.proofs.Common.{◌≡◌, ◌+◌, ◌≤◌, ◌++◌, drop}
 use Rattle.coff_write.specs.Format.{symbol_table, symbol_names_size, cap}
 use Rattle.coff_write.proofs.writing.put_symbols.Given as goal
 
