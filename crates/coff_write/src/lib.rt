@@ -12,6 +12,7 @@ mod records;
 mod rows;
 #[cfg(test)]
 mod tests;
+pub mod theorems;
 mod validity;
 mod writing;
 
