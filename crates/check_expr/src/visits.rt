@@ -57,7 +57,8 @@ pub fn visit_values(
     Ok(values)
 }
 
-/// What an expression designates (C11, 6.5), with its typed tree.
+/// What an expression designates (C11, 6.5), with its typed tree. It recurses as deep as the tree is
+/// high, which is at most 256 for a tree that the parser gives.
 ///
 /// # Errors
 ///
