@@ -1,0 +1,119 @@
+ghost use Rattle.std.specs.Prelude.{◌≡◌};
+ghost use Rattle.c_typing.specs.Units.{nothing_yet, visit_units, program_of, typed};
+ghost use Rattle.c_check.specs.Answers.{Answers, LeavesUnits, refusal_in};
+
+use crate::items::type_unit;
+use crate::missing::check_missing;
+use crate::nodes::nodes_of_units;
+use crate::refusals::CheckRefusal;
+use c_program::Program;
+use c_tree::Unit;
+use c_types::Types;
+use c_typing::{Progress, Refusal, Tables, UnitScope};
+use hx_words::Items;
+use std::alloc::Global;
+
+/// A program before its first unit.
+fn start(alloc: Global) -> Progress
+    ensures { result ≡ nothing_yet }
+{
+    let types = Types {
+        tys: Items::new(alloc),
+        structs: Items::new(alloc),
+        funs: Items::new(alloc),
+    };
+    let tables = Tables {
+        types,
+        locals: Items::new(alloc),
+        has_list: false,
+        extras: 0,
+    };
+    let scope = UnitScope {
+        names: Items::new(alloc),
+        tags: Items::new(alloc),
+    };
+    Progress {
+        tables,
+        globals: Items::new(alloc),
+        functions: Items::new(alloc),
+        adjustors: Items::new(alloc),
+        defined: 0,
+        scope,
+    }
+}
+
+fn in_unit(unit: u32, refusal: Refusal) -> CheckRefusal
+    ensures { result ≡ refusal_in unit refusal }
+{
+    match refusal {
+        Refusal::Fault(f) => CheckRefusal::Bad {
+            unit,
+            kind: f.kind,
+            at: f.at,
+        },
+        Refusal::NoMemory => CheckRefusal::NoMemory,
+    }
+}
+
+/// Units in order, from number 0 on.
+#[tactic(auto, using(crate::proofs::UnitLaws::units_kept, crate::proofs::UnitLaws::units_left, crate::proofs::UnitLaws::units_whole))]
+fn type_units(alloc: Global, units: &[Unit], state: &mut Progress) -> Result<(), CheckRefusal>
+    ensures { LeavesUnits (visit_units 0 units.now state.old) result state.new }
+{
+    for (k, text) in units.iter().enumerate() {
+        let Ok(unit) = u32::try_from(k) else {
+            return Err(CheckRefusal::NoMemory);
+        };
+        if let Err(refusal) = type_unit(alloc, unit, text, state) {
+            return Err(in_unit(unit, refusal));
+        }
+    }
+    Ok(())
+}
+
+fn finish(units: &[Unit], state: Progress) -> Program
+    ensures { result ≡ program_of units.now state }
+{
+    let Progress {
+        tables,
+        globals,
+        functions,
+        adjustors,
+        defined: _,
+        scope: _,
+    } = state;
+    let Tables {
+        types,
+        locals: _,
+        has_list: _,
+        extras,
+    } = tables;
+    Program {
+        types,
+        globals,
+        functions,
+        adjustors,
+        other_nodes: nodes_of_units(units),
+        extras,
+    }
+}
+
+/// The program that units are, every conversion written out. Of a whole program, what it declares is
+/// defined, `int main(void)` too; units that aren't whole may lack both.
+///
+/// # Errors
+///
+/// [`CheckRefusal::Bad`] with the first fault in the order of units, items and parts from left to right;
+/// of a whole program without one then the first undefined name, and then that `main` is missing, at byte
+/// 0 of unit 0. [`CheckRefusal::NoMemory`] alone is free.
+#[tactic(auto, unfolding(c_typing::specs::Units::typed))]
+pub fn check(alloc: Global, units: &[Unit], whole: bool) -> Result<Program, CheckRefusal>
+    ensures { Answers (typed units.now whole) result }
+{
+    let mut state = start(alloc);
+    type_units(alloc, units, &mut state)?;
+    if whole {
+        check_missing(units, &state)?;
+    }
+    Ok(finish(units, state))
+}

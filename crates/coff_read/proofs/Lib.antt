@@ -1,0 +1,4 @@
+pub mod KeptLaws
+pub mod ComdatLaws
+pub mod PlaceLaws
+pub mod StageLaws

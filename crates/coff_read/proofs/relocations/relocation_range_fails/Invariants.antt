@@ -1,0 +1,7 @@
+use Rattle.std.proofs.Common.{◌≡◌}
+use Rattle.file_words.specs.Below.{any_below}
+use Rattle.coff_read.specs.Refusals.{bad_rows}
+use Rattle.coff_read.proofs.relocations.relocation_range_fails.Given as goal
+
+abbrev pub invariant-loop-i : goal.invariant-loop-i
+invariant-loop-i l = l.fails ≡ any_below (bad_rows l.bytes) l.i

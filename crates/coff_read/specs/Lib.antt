@@ -1,0 +1,4 @@
+pub mod Kept
+pub mod Refusals
+pub mod Objects
+pub mod Stages

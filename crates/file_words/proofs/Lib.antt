@@ -1,0 +1,4 @@
+pub mod BelowLaws
+pub mod PartLaws
+pub mod FirstLaws
+pub mod HasLaws

@@ -1,0 +1,4 @@
+pub mod Below
+pub mod Fields
+pub mod Firsts
+pub mod Standing

@@ -1,0 +1,12 @@
+pub mod ItemPartLaws
+pub mod TypedLaws
+pub mod FieldLaws
+pub mod TypedefLaws
+pub mod AdjustorLaws
+pub mod GlobalLaws
+pub mod UnitHosts
+pub mod UnitComplete
+pub mod UnitSound
+pub mod UnitViable
+pub mod UnitLaws
+pub mod Bodies
