@@ -2,7 +2,8 @@
 """Shows the object of the tests of crates/coff_write to llvm-readobj.
 
   coff_sample.py              reads the bytes in crates/coff_write/src/tests.rt, and says whether
-                              llvm-readobj (package llvm) reads all their parts without complaint
+                              llvm-readobj, llvm-objdump and llvm-nm (package llvm-19, else llvm)
+                              read all their parts without complaint
 
 Releases before LLVM 15 don't know the machine of Arm64EC, 0xA641; for these the machine is made
 that of Arm64, 0xAA64, whose relocation types are the same. Without the program it says so and ends
@@ -47,6 +48,20 @@ def shown(tool, data):
         return subprocess.run([tool, *parts, file.name], capture_output=True, text=True)
 
 
+def complaints(data):
+    """What llvm-objdump and llvm-nm of the same release say against the object."""
+    found = []
+    with tempfile.NamedTemporaryFile(suffix=".obj") as file:
+        file.write(data)
+        file.flush()
+        for name, words in (("llvm-objdump-19", ["-d", "-r"]), ("llvm-nm-19", [])):
+            if shutil.which(name):
+                said = subprocess.run([name, *words, file.name], capture_output=True, text=True)
+                if said.returncode != 0 or said.stderr:
+                    found.append(f"{name}: {said.stderr}")
+    return found
+
+
 def main():
     tool = next(filter(None, map(shutil.which, ["llvm-readobj-19", "llvm-readobj"])), None)
     if tool is None:
@@ -61,8 +76,13 @@ def main():
     if said.returncode != 0 or said.stderr or missing:
         print(said.stderr, "missing:", missing)
         return 1
+    against = complaints(data)
+    if against:
+        print("\n".join(against))
+        return 1
     print(f"{len(data)} bytes read, each part as it was meant")
     return 0
 
 
-sys.exit(main())
+if __name__ == "__main__":
+    sys.exit(main())
