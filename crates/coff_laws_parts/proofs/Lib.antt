@@ -1,0 +1,7 @@
+pub mod Parts
+pub mod Sections
+pub mod SectionReads
+pub mod HybridReads
+pub mod SymbolReads
+pub mod FileReads
+pub mod Sites
