@@ -1,0 +1,5 @@
+pub mod TextLaws
+pub mod MachineLaws
+pub mod ReadingLaws
+pub mod UnitLaws
+pub mod AnswerLaws
