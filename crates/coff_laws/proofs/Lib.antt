@@ -1,6 +1,6 @@
 pub mod Kept
 pub mod ObjectReads
-pub mod Ranges
+pub mod RangeRefusals
 pub mod SymbolKinds
 pub mod Relocations
 pub mod Written

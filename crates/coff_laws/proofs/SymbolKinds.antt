@@ -22,7 +22,7 @@ use Rattle.coff_laws_parts.proofs.SymbolReads.{SymbolRead}
 use Rattle.coff_laws_base.proofs.Walks.{OnlyMain, first_records}
 use Rattle.coff_laws_parts.proofs.FileReads.{IsRead, IsPlaced, placed, record_at, section_at, symbol_at}
 use Rattle.coff_laws.proofs.Kept.{no_section_passes, symbol_begins}
-use Rattle.coff_laws.proofs.Ranges.{no_symbol_passes}
+use Rattle.coff_laws.proofs.RangeRefusals.{no_symbol_passes}
 
 -- ---- classes and sections of symbols
 

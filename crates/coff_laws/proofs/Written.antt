@@ -14,7 +14,7 @@ use Rattle.coff_laws_parts.specs.Ranges.{HasRanges}
 use Rattle.coff_laws_base.proofs.Validity.{valid_parts}
 use Rattle.coff_laws_parts.proofs.FileReads.{IsRead, is_read}
 use Rattle.coff_laws.proofs.ObjectReads.{object_in_is}
-use Rattle.coff_laws.proofs.Ranges.{not_too_large, not_short, not_big, machine_good, no_optional, sections_good, symbols_good, names_good}
+use Rattle.coff_laws.proofs.RangeRefusals.{not_too_large, not_short, not_big, machine_good, no_optional, sections_good, symbols_good, names_good}
 use Rattle.coff_laws.proofs.SymbolKinds.{kinds_good, comdats_good}
 use Rattle.coff_laws.proofs.Relocations.{ranges_good, types_known, places_within, hybrids_good}
 

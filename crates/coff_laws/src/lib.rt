@@ -1,5 +1,6 @@
 //! The law of object files, over every object: what the writer spells (crate `coff_write`) is read back as the same
-//! object (crate `coff_read`). It takes no step.
+//! object (crate `coff_read`). The law takes no step. It wants that the numbers of the object are those of their types,
+//! which [`object_has_ranges`] says of an object that code holds.
 #![tactic(auto)]
 
 ghost use Rattle.std.specs.Prelude.{◌≡◌, Result, Ok, MatchResult, true};
@@ -10,6 +11,10 @@ ghost use Rattle.coff_read.specs.declared.refusal.ObjRefusal.{ObjRefusal as Refu
 ghost use Rattle.coff_read.specs.declared.refusal.ObjRefusal.TheVariants.{NoMemory};
 ghost use Rattle.coff_read.specs.Objects.{object_of, Tells};
 ghost use Rattle.coff_laws_parts.specs.Ranges.{HasRanges};
+
+mod ranges;
+
+pub use ranges::object_has_ranges;
 
 /// What is written for a valid object is read back as it was.
 pub fn written_is_read()
