@@ -130,8 +130,8 @@ static CASES: [Case; 66] = [
     (b"* #main@1 !0 | * #main@1 u@1", "NoEntryThunk #main"),
 ];
 
-fn digit(c: u8) -> u32 {
-    (c as u32).saturating_sub(48)
+fn digit(c: u8) -> u16 {
+    (c as u16).saturating_sub(48)
 }
 
 fn section(alloc: Global, comdat: bool) -> ObjSection {
@@ -158,7 +158,7 @@ fn symbol(alloc: Global, word: &[u8], number: usize) -> Result<ObjSymbol, AllocE
     let section = if place == b'A' {
         65_535
     } else {
-        digit(place) as u16
+        digit(place)
     };
     Ok(ObjSymbol {
         name: Items::from_slice(alloc, name)?,
@@ -174,7 +174,7 @@ fn add_word(alloc: Global, object: &mut Object, word: &[u8]) -> Result<(), Alloc
         [b'+'] => object.sections.push(section(alloc, false))?,
         [b'*'] => object.sections.push(section(alloc, true))?,
         [mark @ (b'!' | b'?'), number] => object.hybrid.push(HybridRow {
-            source: digit(*number),
+            source: digit(*number) as u32,
             thunk: 0,
             kind: if *mark == b'!' { 1 } else { 0 },
         })?,
