@@ -1,8 +1,7 @@
 //! The program `ecc`: the top call over real files and streams.
 #![tactic(auto)]
 
-use ec_driver::driver::ecc;
-use ec_driver::report::status_of;
+use ec_driver::{ecc, status_of};
 use hx_io::{FileStore, StdSink, StdSource};
 use std::process::ExitCode;
 use std::rt::Env;

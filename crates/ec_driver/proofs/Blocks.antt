@@ -1,29 +1,26 @@
 -- Calls of services, as the machine runs them.
-use Rattle.std.proofs.Common.{◌≡◌, ℕ, suc, ◌+◌, ◌-◌, ◌*◌, ◌%◌, ◌^◌, ◌<◌, ◌≤◌, List, [], ◌∷◌, ◌++◌, length, take, drop, Option, Some, Result, Ok, refl, sym, ap, ap₂, subst, ◌∙◌, arith}
+use Rattle.std.proofs.Common.{◌≡◌, ℕ, suc, ◌+◌, ◌-◌, ◌%◌, ◌^◌, ◌<◌, List, [], ◌∷◌, ◌++◌, length, drop, Result, Ok, refl, sym, ap, ◌∙◌, arith}
 use Rattle.std.proofs.lemmas.List.{drop-drop}
 use Rattle.std.proofs.Math.Seq.{drop-append_seam}
-use Rattle.hx_mem.specs.Space.{Space, code_of, store_of, load_of, after_store}
+use Rattle.hx_mem.specs.Space.{store_of, load_of, after_store}
 use Rattle.hx_mem.specs.declared.fault.MemBad.{MemBad}
 use Rattle.hx_mem.proofs.Writes.{code_of-put}
 use Rattle.hx_mem.proofs.Laws.{load_after_store, store_of-after_store, store_ok-writable}
 use Rattle.hx_words.specs.LittleEndian.{bytes_of}
 use Rattle.reg_map.specs.declared.registers.X64Reg.{X64Reg}
 use Rattle.reg_map.specs.declared.registers.X64Reg.TheVariants.{Rax, Rcx, Rsp}
-use Rattle.reg_map.specs.Registers.{Registers, x64_value, with_x64}
-use Rattle.x64_isa.specs.declared.instruction.XInstr.{XInstr}
+use Rattle.reg_map.specs.Registers.{with_x64}
 use Rattle.x64_isa.specs.declared.instruction.XInstr.TheVariants.{MovImm64, CallReg}
 use Rattle.x64_isa.specs.Spelling.{spell_of, Valid}
-use Rattle.x64_exec.specs.Words.{Effect, word, minus, stored, goes_on, calls}
+use Rattle.x64_exec.specs.Words.{Effect, word, minus, stored}
 use Rattle.x64_exec.specs.declared.event.XEvent.TheVariants.{CallTo}
 use Rattle.x64_exec.specs.Effects.{effect_of}
-use Rattle.flat_machine.specs.Layout.{image_base, stack_top, services_base, service_at}
-use Rattle.flat_machine.specs.declared.service.Service.{Service}
-use Rattle.flat_machine.specs.declared.service.Service.TheVariants.{PutByte, ExitGuest}
+use Rattle.flat_machine.specs.Layout.{image_base, stack_top, services_base}
 use Rattle.flat_machine.specs.declared.ends.RunEnd.TheVariants.{Exit}
-use Rattle.flat_machine.specs.Steps.{Guest, After, Goes, Ends, Act, quiet, moved, returned, step_of}
-use Rattle.flat_machine.specs.Runs.{Run, before, run_from}
+use Rattle.flat_machine.specs.Steps.{Guest, Goes, Ends, Act, quiet, moved, returned, step_of}
+use Rattle.flat_machine.specs.Runs.{run_from}
 use Rattle.flat_machine.proofs.Stepping.{HasCode, step_at}
-use Rattle.flat_machine.proofs.Unrolled.{run_goes, run_puts, run_ends}
+use Rattle.flat_machine.proofs.Unrolled.{run_goes}
 use Rattle.first_form.proofs.CodeLaws.{mov_rcx_size, mov_rax_size, call_size}
 
 -- where the code keeps the stack pointer, and the word below it

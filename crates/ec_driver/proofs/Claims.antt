@@ -1,68 +1,132 @@
 -- What a user may rely on, from what stands.
-use Rattle.std.proofs.Common.{◌≡◌, ℕ, ◌+◌, ◌*◌, ◌%◌, ◌≤◌, Bool, IsTrue, List, ◌++◌, length, refl, sym, ap, subst, ◌∙◌, inl, inr, Some, None, Option}
-use Rattle.std.specs.Prelude.{◌⊎◌, MatchOption}
+use Rattle.std.proofs.Common.{◌≡◌, ℕ, ◌+◌, ◌*◌, ◌%◌, ◌≤◌, IsTrue, List, ◌++◌, length, refl, sym, ap, subst, ◌∙◌, inl, inr, Some, None, Option}
+use Rattle.std.specs.Prelude.{◌⊎◌}
 use Rattle.first_form.specs.FirstForm.{IsFirstForm}
 use Rattle.first_form.proofs.UnitLaws.{IsFirstForm_unique}
-use Rattle.ec_driver.specs.declared.report.Outcome.{Outcome}
-use Rattle.ec_driver.specs.declared.report.Outcome.TheVariants.{Exit}
-use Rattle.ec_driver.specs.declared.report.Report.{Report}
-use Rattle.ec_driver.specs.declared.report.Report.TheVariants.{Guest, Usage, Missing, NotBuilt, StoreFault, WriteFault, NoMemory}
-use Rattle.ec_driver.specs.Words.{Names, command_of}
-use Rattle.ec_driver.specs.Answers.{StoreCall, SinkCall, SinkRose, IsUnit, HasImage, NothingSaved, ExecStands, Stands, Tells, Answers, Exited, IsGood}
+use Rattle.flat_machine.specs.declared.ends.RunEnd.TheVariants.{Exit as ExitEnd}
+use Rattle.flat_machine.specs.Steps.{Goes, Ends}
+use Rattle.flat_machine.specs.Runs.{Run, flat_run}
+use Rattle.ec_words.specs.Table.{Text}
+use Rattle.ec_words.specs.Commands.{Form, check, exec, command_of}
+use Rattle.ec_report.specs.declared.kinds.Outcome.{Outcome}
+use Rattle.ec_report.specs.declared.kinds.Outcome.TheVariants.{Exit, Budget}
+use Rattle.ec_report.specs.declared.reports.Report.{Report}
+use Rattle.ec_report.specs.declared.reports.Report.TheVariants as answer
+use Rattle.ec_driver.specs.Courses.{Course, Checks, Builds, course_of}
+use Rattle.ec_driver.specs.Answers.{StoreCall, SinkCall, SinkRose, Follows, IsCaused, HasImage, IsImage, IsOutcome, output_of, RunStands, ExecLeaves, Stands, Tells, Answers, ExecWords, exec_form, Exited, IsGood, IsSound}
+use Rattle.ec_driver.proofs.Ended.{image_ends, image_exits}
 
 -- the report is that of the command, or memory ran out, or the sink of lines failed
-report_is : (words : List (List ℕ)) (files : StoreCall) (output line : SinkCall) (r : Report) → (a : Answers words files output line r) → (r ≡ a.own) ⊎ ((r ≡ NoMemory) ⊎ ((r ≡ WriteFault) × SinkRose line))
+report_is : (words : List Text) (files : StoreCall) (output line : SinkCall) (r : Report) → (a : Answers words files output line r) → (r ≡ a.own) ⊎ ((r ≡ answer.NoMemory) ⊎ ((r ≡ answer.WriteFault) × SinkRose line))
 report_is words files output line r a = by a.told_is a.tells
   where
-    by : (a.told ≡ a.own) ⊎ (a.told ≡ NoMemory) → Tells a.told line r → (r ≡ a.own) ⊎ ((r ≡ NoMemory) ⊎ ((r ≡ WriteFault) × SinkRose line))
+    by : (a.told ≡ a.own) ⊎ (a.told ≡ answer.NoMemory) → Tells a.told line r → (r ≡ a.own) ⊎ ((r ≡ answer.NoMemory) ⊎ ((r ≡ answer.WriteFault) × SinkRose line))
     by (inl own) (inl told) = inl (told.0 ∙ own)
     by (inr none) (inl told) = inr (inl (told.0 ∙ none))
     by own (inr failed) = inr (inr (failed.0, failed.1))
 
-exited_by : (words : List (List ℕ)) (files : StoreCall) (output : SinkCall) (k : ℕ) (o : Option Names) → command_of words ≡ o → MatchOption o ((Guest (Exit k) ≡ Usage) × NothingSaved files × (output.after ≡ output.before)) (λ names. ExecStands names files output (Guest (Exit k))) → Exited words files output k
-exited_by words files output k None is s = absurd (let e : Guest (Exit k) ≡ Usage = s.0 in cc)
-exited_by words files output k (Some names) is (h, status, put) = record { names = names; command = is; image = h; status = cc; put = put }
+-- ---- after `exit k`
 
-pub exited : (words : List (List ℕ)) (files : StoreCall) (output line : SinkCall) (r : Report) → Answers words files output line r → (k : ℕ) → r ≡ Guest (Exit k) → Exited words files output k
+exec_exited : (words : List Text) (files : StoreCall) (output : SinkCall) (k : ℕ) (e : ExecWords) → command_of words ≡ Some (exec_form e) → Stands (Some (exec_form e)) files output (answer.Guest (Exit k)) → Exited words files output k
+exec_exited words files output k e is s =
+    let h : HasImage files (course_of (Some (exec_form e)) files.before) e.image = s.leaves.0 in
+    let ran : RunStands (flat_run h.image e.fuel) output (answer.Guest (Exit k)) = s.leaves.1 in
+    let ended : (flat_run h.image e.fuel).after ≡ Ends (ExitEnd k) = ran.0 in
+    let exits : ExitEnd k ≡ ExitEnd (h.status % 256) = image_exits h.image h.puts h.status e.fuel (ExitEnd k) h.built.image_runs ended in
+    let status : k ≡ h.status % 256 = cc in
+    let put : IsTrue output.told → output.after ≡ output.before ++ output_of h.puts = λ t. ran.1 t ∙ ap (λ (r : Run). output.before ++ r.output) (image_ends h.image h.puts h.status e.fuel (ExitEnd k) h.built.image_runs ended) in
+    subst (λ (c : Option Form). (i : HasImage files (course_of c files.before) e.image) → k ≡ i.status % 256 → (IsTrue output.told → output.after ≡ output.before ++ output_of i.puts) → Exited words files output k) is
+    (λ i status put. record { command = e; is_command = is; image = i; status = status; put = put }) h status put
+
+exited_by : (words : List Text) (files : StoreCall) (output : SinkCall) (k : ℕ) (c : Option Form) → command_of words ≡ c → Stands c files output (answer.Guest (Exit k)) → Exited words files output k
+exited_by words files output k None is s = absurd (neither s.leaves.1)
+  where
+    neither : (answer.Guest (Exit k) ≡ answer.Usage) ⊎ (answer.Guest (Exit k) ≡ answer.NoMemory) → ⊥
+    neither (inl e) = cc
+    neither (inr e) = cc
+exited_by words files output k (Some (check units)) is s = absurd s.leaves.1
+exited_by words files output k (Some (exec units image marks stack base fuel)) is s = exec_exited words files output k (record { units = units; image = image; marks = marks; stack = stack; base = base; fuel = fuel }) is s
+exited_by words files output k (Some other) is s = absurd (neither s.leaves.1)
+  where
+    neither : (answer.Guest (Exit k) ≡ answer.NotBuilt) ⊎ (answer.Guest (Exit k) ≡ answer.NoMemory) → ⊥
+    neither (inl e) = cc
+    neither (inr e) = cc
+
+pub exited : (words : List Text) (files : StoreCall) (output line : SinkCall) (r : Report) → Answers words files output line r → (k : ℕ) → r ≡ answer.Guest (Exit k) → Exited words files output k
 exited words files output line r a k is = by (report_is words files output line r a)
   where
-    by : (r ≡ a.own) ⊎ ((r ≡ NoMemory) ⊎ ((r ≡ WriteFault) × SinkRose line)) → Exited words files output k
-    by (inl own) = exited_by words files output k (command_of words) refl (subst (Stands words files output) (sym own ∙ is) a.stands)
+    by : (r ≡ a.own) ⊎ ((r ≡ answer.NoMemory) ⊎ ((r ≡ answer.WriteFault) × SinkRose line)) → Exited words files output k
+    by (inl own) = exited_by words files output k (command_of words) refl (subst (Stands (command_of words) files output) (sym own ∙ is) a.stands)
     by (inr (inl none)) = absurd cc
-    by (inr (inr failed)) = absurd (let e : r ≡ WriteFault = failed.0 in cc)
+    by (inr (inr failed)) = absurd (let e : r ≡ answer.WriteFault = failed.0 in cc)
 
--- what the command's own report is where all is good
-good_own : (words : List (List ℕ)) (files : StoreCall) (output line : SinkCall) (puts : List ℕ) (status : ℕ) (names : Names) (own : Report) → (g : IsGood words files output line puts status) → g.names ≡ names → ExecStands names files output own → (own ≡ Guest (Exit (status % 256))) ⊎ (own ≡ NoMemory)
-good_own words files output line puts status names (Guest outcome) g n (h, is, put) =
-    let held : Some h.built.source ≡ Some g.source = sym (h.built.held g.told) ∙ ap (λ (m : Names). files.before m.unit) (sym n) ∙ g.held in
+-- ---- where all is good
+
+-- a run with steps enough ends as the unit says
+good_outcome : (image puts : List ℕ) (status fuel : ℕ) (outcome : Outcome) → IsImage image puts status → 8 * (length puts + 1) ≤ fuel → IsOutcome (flat_run image fuel) outcome → outcome ≡ Exit (status % 256)
+good_outcome image puts status fuel (Exit k) runs enough is =
+    let ends : Ends (ExitEnd k) ≡ Ends (ExitEnd (status % 256)) = sym is ∙ ap (λ (r : Run). r.after) (runs fuel enough) in
+    let same : k ≡ status % 256 = cc in ap Exit same
+good_outcome image puts status fuel Budget runs enough is =
+    let ends : Goes is.0 ≡ Ends (ExitEnd (status % 256)) = sym is.1 ∙ ap (λ (r : Run). r.after) (runs fuel enough) in absurd (cc)
+good_outcome image puts status fuel other runs enough is = absurd is
+
+-- what the command's own report is then
+good_own : (words : List Text) (files : StoreCall) (output line : SinkCall) (puts : List ℕ) (status : ℕ) (own : Report) → (g : IsGood words files output line puts status) → course_of (Some (exec_form g.command)) files.before ≡ Builds g.source
+    → Follows (Builds g.source) own → IsCaused files output own → ExecLeaves g.command.units (course_of (Some (exec_form g.command)) files.before) g.command.image g.command.fuel files output own
+    → (own ≡ answer.Guest (Exit (status % 256))) ⊎ (own ≡ answer.NoMemory)
+good_own words files output line puts status (answer.Guest outcome) g course follows caused (h, ran) =
+    let held : Builds h.built.source ≡ Builds g.source = sym (h.built.wanted g.told) ∙ course in
     let same : h.built.source ≡ g.source = cc in
-    let reads : IsFirstForm h.puts h.status g.source = subst (IsFirstForm h.puts h.status) same h.built.unit.reads in
-    let one : (h.puts ≡ puts) × (h.status ≡ status) = IsFirstForm_unique h.puts puts h.status status g.source reads g.unit.reads in
-    inl (ap Guest (is ∙ ap (λ s. Exit (s % 256)) one.1))
-good_own words files output line puts status names WriteFault g n s = absurd (g.output_worked s.0)
-good_own words files output line puts status names NoMemory g n s = inr refl
-good_own words files output line puts status names StoreFault g n s = absurd (g.store_worked s.0)
-good_own words files output line puts status names NotBuilt g n (none, nothing, put) =
-    let no = none g.told in
-    let held : Some no.0 ≡ Some g.source = sym no.1 ∙ ap (λ (m : Names). files.before m.unit) (sym n) ∙ g.held in
-    let same : g.source ≡ no.0 = cc in
-    absurd (no.2 puts status (subst (λ (xs : List ℕ). IsUnit xs puts status) same g.unit))
-good_own words files output line puts status names (Missing name) g n (is, none, nothing, put) =
-    let gone : Some g.source ≡ None = sym g.held ∙ ap (λ (m : Names). files.before m.unit) n ∙ none g.told in
-    absurd cc
-good_own words files output line puts status names Usage g n s = absurd s
+    let reads : IsFirstForm h.puts h.status g.source = subst (IsFirstForm h.puts h.status) same h.built.reads in
+    let one : (h.puts ≡ puts) × (h.status ≡ status) = IsFirstForm_unique h.puts puts h.status status g.source reads g.reads in
+    let enough : 8 * (length h.puts + 1) ≤ g.command.fuel = subst (λ (xs : List ℕ). 8 * (length xs + 1) ≤ g.command.fuel) (sym one.0) g.enough in
+    inl (ap answer.Guest (good_outcome h.image h.puts h.status g.command.fuel outcome h.built.image_runs enough ran.0 ∙ ap (λ s. Exit (s % 256)) one.1))
+good_own words files output line puts status answer.WriteFault g course follows caused s = absurd (g.worked.output_worked caused)
+good_own words files output line puts status answer.NoMemory g course follows caused s = inr refl
+good_own words files output line puts status answer.StoreFault g course follows caused s = absurd (g.worked.store_worked caused)
+good_own words files output line puts status answer.NotBuilt g course follows caused s = absurd (follows puts status g.reads)
+good_own words files output line puts status other g course follows caused s = absurd follows
 
-pub completes : (words : List (List ℕ)) (files : StoreCall) (output line : SinkCall) (r : Report) → Answers words files output line r → (puts : List ℕ) (status : ℕ) → IsGood words files output line puts status → (r ≡ Guest (Exit (status % 256))) ⊎ (r ≡ NoMemory)
+pub completes : (words : List Text) (files : StoreCall) (output line : SinkCall) (r : Report) → Answers words files output line r → (puts : List ℕ) (status : ℕ) → IsGood words files output line puts status → (r ≡ answer.Guest (Exit (status % 256))) ⊎ (r ≡ answer.NoMemory)
 completes words files output line r a puts status g = by (report_is words files output line r a)
   where
-    stands : ExecStands g.names files output a.own
-    stands = subst (λ (o : Option Names). MatchOption o ((a.own ≡ Usage) × NothingSaved files × (output.after ≡ output.before)) (λ names. ExecStands names files output a.own)) g.command a.stands
+    stands : Stands (Some (exec_form g.command)) files output a.own
+    stands = subst (λ (c : Option Form). Stands c files output a.own) g.is_command a.stands
 
-    own : (r ≡ a.own) → (a.own ≡ Guest (Exit (status % 256))) ⊎ (a.own ≡ NoMemory) → (r ≡ Guest (Exit (status % 256))) ⊎ (r ≡ NoMemory)
+    course : course_of (Some (exec_form g.command)) files.before ≡ Builds g.source
+    course = sym (ap (λ (c : Option Form). course_of c files.before) g.is_command) ∙ g.course
+
+    follows : Follows (Builds g.source) a.own
+    follows = subst (λ (c : Course). Follows c a.own) course (stands.follows g.told)
+
+    own : (r ≡ a.own) → (a.own ≡ answer.Guest (Exit (status % 256))) ⊎ (a.own ≡ answer.NoMemory) → (r ≡ answer.Guest (Exit (status % 256))) ⊎ (r ≡ answer.NoMemory)
     own e (inl is) = inl (e ∙ is)
     own e (inr none) = inr (e ∙ none)
 
-    by : (r ≡ a.own) ⊎ ((r ≡ NoMemory) ⊎ ((r ≡ WriteFault) × SinkRose line)) → (r ≡ Guest (Exit (status % 256))) ⊎ (r ≡ NoMemory)
-    by (inl e) = own e (good_own words files output line puts status g.names a.own g refl stands)
+    by : (r ≡ a.own) ⊎ ((r ≡ answer.NoMemory) ⊎ ((r ≡ answer.WriteFault) × SinkRose line)) → (r ≡ answer.Guest (Exit (status % 256))) ⊎ (r ≡ answer.NoMemory)
+    by (inl e) = own e (good_own words files output line puts status a.own g course follows stands.caused stands.leaves)
     by (inr (inl none)) = inr none
-    by (inr (inr failed)) = absurd (g.line_worked failed.1)
+    by (inr (inr failed)) = absurd (g.worked.line_worked failed.1)
+
+-- ---- where `check` has nothing against its units
+
+sound_own : (words : List Text) (files : StoreCall) (output line : SinkCall) (own : Report) → IsSound words files output line → Follows Checks own → IsCaused files output own → (own ≡ answer.Checked) ⊎ (own ≡ answer.NoMemory)
+sound_own words files output line answer.StoreFault g follows caused = absurd (g.worked.store_worked caused)
+sound_own words files output line answer.NoMemory g follows caused = inr refl
+sound_own words files output line other g follows caused = inl follows
+
+pub checks : (words : List Text) (files : StoreCall) (output line : SinkCall) (r : Report) → Answers words files output line r → IsSound words files output line → (r ≡ answer.Checked) ⊎ (r ≡ answer.NoMemory)
+checks words files output line r a g = by (report_is words files output line r a)
+  where
+    follows : Follows Checks a.own
+    follows = subst (λ (c : Course). Follows c a.own) g.course (a.stands.follows g.told)
+
+    own : (r ≡ a.own) → (a.own ≡ answer.Checked) ⊎ (a.own ≡ answer.NoMemory) → (r ≡ answer.Checked) ⊎ (r ≡ answer.NoMemory)
+    own e (inl is) = inl (e ∙ is)
+    own e (inr none) = inr (e ∙ none)
+
+    by : (r ≡ a.own) ⊎ ((r ≡ answer.NoMemory) ⊎ ((r ≡ answer.WriteFault) × SinkRose line)) → (r ≡ answer.Checked) ⊎ (r ≡ answer.NoMemory)
+    by (inl e) = own e (sound_own words files output line a.own g follows a.stands.caused)
+    by (inr (inl none)) = inr none
+    by (inr (inr failed)) = absurd (g.worked.line_worked failed.1)

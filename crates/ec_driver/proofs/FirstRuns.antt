@@ -1,26 +1,23 @@
 -- The code of a unit of the first form puts what the unit says, and ends with its status.
-use Rattle.std.proofs.Common.{◌≡◌, ℕ, suc, pos, ◌+◌, ◌-◌, ◌*◌, ◌%◌, ◌^◌, ◌<◌, ◌≤◌, List, [], ◌∷◌, ◌++◌, length, take, drop, append_assoc, append-nil, refl, sym, ap, ap₂, subst, ◌∙◌, arith}
-use Rattle.hx_words.specs.TwosComplement.{bits_of}
+use Rattle.std.proofs.Common.{◌≡◌, ℕ, suc, pos, ◌+◌, ◌-◌, ◌*◌, ◌%◌, ◌^◌, ◌<◌, ◌≤◌, List, [], ◌∷◌, ◌++◌, length, drop, refl, ap, ◌∙◌, arith}
 use Rattle.reg_map.specs.declared.registers.X64Reg.TheVariants.{Rax, Rcx, Rsp}
-use Rattle.reg_map.specs.Registers.{Registers, x64_value, with_x64}
-use Rattle.x64_isa.specs.declared.instruction.XInstr.{XInstr}
+use Rattle.reg_map.specs.Registers.{with_x64}
 use Rattle.x64_isa.specs.declared.instruction.XInstr.TheVariants.{MovImm64, SubImm, CallReg, Ud2}
 use Rattle.x64_isa.specs.Spelling.{spell_of, Valid}
-use Rattle.x64_exec.specs.Words.{word, minus, flags_of_minus}
+use Rattle.x64_exec.specs.Words.{word, flags_of_minus}
 use Rattle.x64_exec.specs.Effects.{effect_of}
 use Rattle.flat_machine.specs.Layout.{image_base, stack_top, services_base, start_memory, start_registers}
 use Rattle.flat_machine.specs.declared.ends.RunEnd.TheVariants.{Exit}
 use Rattle.flat_machine.specs.Steps.{Guest, Goes, Ends, quiet, step_of}
-use Rattle.flat_machine.specs.Runs.{Run, before, run_from, start_of, flat_run}
+use Rattle.flat_machine.specs.Runs.{Run, before, run_from, start_of}
 use Rattle.flat_machine.proofs.Stepping.{HasCode, step_at}
 use Rattle.flat_machine.proofs.Starting.{start_code, start_room}
 use Rattle.flat_machine.proofs.Unrolled.{run_goes, run_puts, run_ends}
 use Rattle.first_form.specs.FirstForm.{AreBelow}
-use Rattle.first_form.specs.FirstCode.{call_of, body_of, instructions_of, spelled, code_of, AllValid}
-use Rattle.first_form.specs.declared.services.Service.TheVariants.{PutByte, Exit as ExitService}
-use Rattle.first_form.proofs.CodeLaws.{code_begins, sub_size, body_size, code_size, instructions_valid}
+use Rattle.first_form.specs.FirstCode.{body_of, instructions_of, spelled, code_of}
+use Rattle.first_form.proofs.CodeLaws.{code_begins, sub_size, code_size, instructions_valid}
 use Rattle.ec_driver.specs.Answers.{output_of, IsImage}
-use Rattle.ec_driver.proofs.Blocks.{kept_sp, below_sp, IsReady, behind, call_runs, call_behind, put_step, exit_step, returned_to, returned_ready}
+use Rattle.ec_driver.proofs.Blocks.{kept_sp, IsReady, behind, call_runs, call_behind, put_step, exit_step, returned_to, returned_ready}
 
 four_more : (n : ℕ) → 4 ≤ n → n ≡ suc (suc (suc (suc (n - 4))))
 four_more n h = omega arith

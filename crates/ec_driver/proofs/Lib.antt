@@ -1,4 +1,8 @@
 pub mod Blocks
 pub mod FirstRuns
-pub mod Driving
+pub mod Ended
+pub mod Names
+pub mod Later
+pub mod BuildLaws
+pub mod PlanLaws
 pub mod Claims

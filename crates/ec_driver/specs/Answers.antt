@@ -1,18 +1,22 @@
 -- What a call of `ecc` answers, and what stands after it.
-use Rattle.std.specs.Prelude.{◌≡◌, ℕ, ◌+◌, ◌*◌, ◌%◌, ◌≤◌, ◌<◌, Bool, IsTrue, List, ◌++◌, length, map, Option, Some, None, MatchOption, ◌⊎◌}
+use Rattle.std.specs.Prelude.{◌≡◌, ℕ, ◌+◌, ◌*◌, ◌%◌, ◌≤◌, Bool, IsTrue, List, ◌++◌, length, map, Contains, Option, Some, None, ◌⊎◌}
 use Rattle.hx_words.specs.Counts.{Rose}
 use Rattle.hx_io.specs.Streams.{AppendsPrefix}
 use Rattle.hx_io.specs.Files.{Files, SameFiles, SameButAt, HoldsOldOrPrefix}
 use Rattle.first_form.specs.FirstForm.{IsFirstForm}
 use Rattle.flat_machine.specs.declared.ends.RunEnd.TheVariants.{Exit as ExitEnd}
-use Rattle.flat_machine.specs.Steps.{Ends}
+use Rattle.flat_machine.specs.Steps.{Guest as GuestState, Goes, Ends}
 use Rattle.flat_machine.specs.Runs.{Run, flat_run}
-use Rattle.ec_driver.specs.declared.report.Outcome.{Outcome}
-use Rattle.ec_driver.specs.declared.report.Outcome.TheVariants.{Exit}
-use Rattle.ec_driver.specs.declared.report.Report.{Report}
-use Rattle.ec_driver.specs.declared.report.Report.TheVariants.{Guest, Usage, Missing, NotBuilt, StoreFault, WriteFault, NoMemory}
-use Rattle.ec_driver.specs.Words.{Names, command_of}
-use Rattle.ec_driver.specs.Reports.{line_of}
+use Rattle.ec_words.specs.Table.{Text}
+use Rattle.ec_words.specs.Markings.{Marks}
+use Rattle.ec_words.specs.Commands.{Form, check, exec, command_of}
+use Rattle.ec_report.specs.declared.kinds.Outcome.{Outcome}
+use Rattle.ec_report.specs.declared.kinds.Outcome.TheVariants.{Exit, Budget}
+use Rattle.ec_report.specs.declared.reports.Report.{Report}
+use Rattle.ec_report.specs.declared.reports.Report.TheVariants as answer
+use Rattle.ec_report.specs.Reports.{line_of}
+use Rattle.ec_units.specs.Verdicts.{absent, over, broken}
+use Rattle.ec_driver.specs.Courses.{Refusal, NoCommand, NotBuiltYet, BadUnits, UnknownMark, Course, Stops, Checks, Builds, course_of}
 
 -- a store over a call: whether its files are told, its files and its faults before and after
 pub record StoreCall : Type 0 where
@@ -36,18 +40,61 @@ StoreRose files = Rose files.faults_before files.faults_after
 abbrev pub SinkRose : SinkCall → Type 0
 SinkRose sink = Rose sink.faults_before sink.faults_after
 
--- the most bytes of a unit
-abbrev pub most_unit : ℕ
-most_unit = 1048576
+-- ---- the report by the course
 
--- a unit of the first form: it puts these numbers and returns the status
-pub record IsUnit (source puts : List ℕ) (status : ℕ) : Type 0 where
-  pub short : length source ≤ most_unit
-  pub reads : IsFirstForm puts status source
-
--- no unit of the first form
+-- the unit isn't of the first form
 abbrev pub IsNoUnit : List ℕ → Type 0
-IsNoUnit source = (puts : List ℕ) (status : ℕ) → ¬ IsUnit source puts status
+IsNoUnit source = (puts : List ℕ) (status : ℕ) → ¬ IsFirstForm puts status source
+
+-- the refusal that a report tells, if it tells one
+abbrev pub refusal_in : Report → Option Refusal
+refusal_in answer.Usage = Some NoCommand
+refusal_in answer.NotBuilt = Some NotBuiltYet
+refusal_in (answer.Missing name) = Some (BadUnits (absent name.items))
+refusal_in (answer.Limit which count) = Some (BadUnits (over which count))
+refusal_in (answer.Unit number why) = Some (BadUnits (broken number why))
+refusal_in (answer.Mark name) = Some (UnknownMark name.items)
+refusal_in other = None
+
+-- What the report of a command is, by its course. A unit that is to be built and isn't of the first form
+-- isn't built yet; where it is, `BuildLeaves` says what comes. A fault, or want of memory, may come in place
+-- of each.
+abbrev pub Follows : Course → Report → Type 0
+Follows course answer.StoreFault = Unit {0}
+Follows course answer.NoMemory = Unit {0}
+Follows (Stops why) report = refusal_in report ≡ Some why
+Follows Checks report = report ≡ answer.Checked
+Follows (Builds source) answer.NotBuilt = IsNoUnit source
+Follows (Builds source) (answer.Guest outcome) = Unit {0}
+Follows (Builds source) answer.WriteFault = Unit {0}
+Follows (Builds source) other = ⊥
+
+-- a fault comes only where the count of its object rose
+abbrev pub IsCaused : StoreCall → SinkCall → Report → Type 0
+IsCaused files output answer.StoreFault = StoreRose files
+IsCaused files output answer.WriteFault = SinkRose output
+IsCaused files output other = Unit {0}
+
+-- ---- what is saved and put
+
+-- no file changed
+abbrev pub NothingSaved : StoreCall → Type 0
+NothingSaved files = IsTrue files.told → SameFiles files.before files.after
+
+-- nothing was saved, and nothing put
+pub record IsUntouched (files : StoreCall) (output : SinkCall) : Type 0 where
+  pub saved : NothingSaved files
+  pub put : output.after ≡ output.before
+
+-- the image's file holds what it held or a prefix of the image, and no other file changed
+pub record IsPartlySaved (files : StoreCall) (name image : List ℕ) : Type 0 where
+  pub others : IsTrue files.told → SameButAt files.before name files.after
+  pub kept : IsTrue files.told → HoldsOldOrPrefix (files.before name) image (files.after name)
+
+-- the image's file holds the image, and no other file changed
+pub record IsSaved (files : StoreCall) (name image : List ℕ) : Type 0 where
+  pub others : IsTrue files.told → SameButAt files.before name files.after
+  pub whole : IsTrue files.told → files.after name ≡ Some image
 
 -- the bytes put, of which each has the low 8 bits of its number
 abbrev pub output_of : List ℕ → List ℕ
@@ -59,122 +106,143 @@ abbrev pub IsImage : List ℕ → List ℕ → ℕ → Type 0
 IsImage image puts status =
     (n : ℕ) → 8 * (length puts + 1) ≤ n → flat_run image n ≡ record { output = output_of puts; after = Ends (ExitEnd (status % 256)) }
 
--- the image belongs to the unit that the store held, where it tells
-pub record IsBuilt (told : Bool) (before : Files) (names : Names) (image puts : List ℕ) (status : ℕ) : Type 0 where
+-- the image belongs to a unit of the first form, which is the one that is to be built
+pub record IsBuilt (told : Bool) (course : Course) (image puts : List ℕ) (status : ℕ) : Type 0 where
   pub source : List ℕ
-  pub held : IsTrue told → before names.unit ≡ Some source
-  pub unit : IsUnit source puts status
+  pub wanted : IsTrue told → course ≡ Builds source
+  pub reads : IsFirstForm puts status source
   pub image_runs : IsImage image puts status
 
--- no file changed
-abbrev pub NothingSaved : StoreCall → Type 0
-NothingSaved files = IsTrue files.told → SameFiles files.before files.after
-
--- the image's file holds what it held or a prefix of the image, and no other file changed
-pub record IsPartlySaved (files : StoreCall) (names : Names) (image : List ℕ) : Type 0 where
-  pub others : IsTrue files.told → SameButAt files.before names.image files.after
-  pub kept : IsTrue files.told → HoldsOldOrPrefix (files.before names.image) image (files.after names.image)
-
--- the image's file holds the image, and no other file changed
-pub record IsSaved (files : StoreCall) (names : Names) (image : List ℕ) : Type 0 where
-  pub others : IsTrue files.told → SameButAt files.before names.image files.after
-  pub whole : IsTrue files.told → files.after names.image ≡ Some image
-
 -- nothing was saved, or the saving of an image of the unit was begun
-abbrev pub MaySave : StoreCall → Names → Type 0
-MaySave files names =
+abbrev pub MaySave : StoreCall → Course → List ℕ → Type 0
+MaySave files course name =
     NothingSaved files ⊎
-    ((image : List ℕ) × (puts : List ℕ) × (status : ℕ) × IsBuilt files.told files.before names image puts status × IsPartlySaved files names image)
+    ((image : List ℕ) × (puts : List ℕ) × (status : ℕ) × IsBuilt files.told course image puts status × IsPartlySaved files name image)
 
 -- an image of the unit was saved
-pub record HasImage (files : StoreCall) (names : Names) : Type 0 where
+pub record HasImage (files : StoreCall) (course : Course) (name : List ℕ) : Type 0 where
   pub image : List ℕ
   pub puts : List ℕ
   pub status : ℕ
-  pub built : IsBuilt files.told files.before names image puts status
-  pub saved : IsSaved files names image
+  pub built : IsBuilt files.told course image puts status
+  pub saved : IsSaved files name image
 
--- what a run of an image of such a unit answers and puts
-abbrev pub RunStands : List ℕ → ℕ → SinkCall → Report → Type 0
-RunStands puts status output (Guest outcome) = (outcome ≡ Exit (status % 256)) × (IsTrue output.told → output.after ≡ output.before ++ output_of puts)
-RunStands puts status output WriteFault = SinkRose output × (IsTrue output.told → AppendsPrefix output.before (output_of puts) output.after)
-RunStands puts status output NoMemory = IsTrue output.told → output.after ≡ output.before
-RunStands puts status output StoreFault = ⊥
-RunStands puts status output NotBuilt = ⊥
-RunStands puts status output (Missing name) = ⊥
-RunStands puts status output Usage = ⊥
+-- How the run of an image of so many steps is told: by `exit`, or by `budget` where it goes on. It comes to no
+-- other end.
+abbrev pub IsOutcome : Run → Outcome → Type 0
+IsOutcome run (Exit k) = run.after ≡ Ends (ExitEnd k)
+IsOutcome run Budget = (g : GuestState) × (run.after ≡ Goes g)
+IsOutcome run other = ⊥
 
--- the report that the name isn't there, or that memory ran out
-abbrev pub IsMissing : List ℕ → Report → Type 0
-IsMissing unit (Missing name) = name.items ≡ unit
-IsMissing unit NoMemory = Unit {0}
-IsMissing unit Usage = ⊥
-IsMissing unit NotBuilt = ⊥
-IsMissing unit StoreFault = ⊥
-IsMissing unit WriteFault = ⊥
-IsMissing unit (Guest outcome) = ⊥
+-- what a run of an image answers and puts
+abbrev pub RunStands : Run → SinkCall → Report → Type 0
+RunStands run output (answer.Guest outcome) = IsOutcome run outcome × (IsTrue output.told → output.after ≡ output.before ++ run.output)
+RunStands run output answer.WriteFault = IsTrue output.told → AppendsPrefix output.before run.output output.after
+RunStands run output answer.NoMemory = IsTrue output.told → output.after ≡ output.before
+RunStands run output other = ⊥
 
--- What stands after each report that the command `exec` with these names has of its own.
-abbrev pub ExecStands : Names → StoreCall → SinkCall → Report → Type 0
--- the store answered that the unit isn't there
-ExecStands names files output (Missing name) =
-    (name.items ≡ names.unit) × (IsTrue files.told → files.before names.unit ≡ None)
-    × NothingSaved files × (output.after ≡ output.before)
--- the unit is too long or isn't of the first form
-ExecStands names files output NotBuilt =
-    (IsTrue files.told → (source : List ℕ) × (files.before names.unit ≡ Some source) × IsNoUnit source)
-    × NothingSaved files × (output.after ≡ output.before)
--- the store failed, at the load or at the save
-ExecStands names files output StoreFault = StoreRose files × MaySave files names × (output.after ≡ output.before)
--- the output failed: the image is saved, and a prefix of the output was put
-ExecStands names files output WriteFault = SinkRose output × (h : HasImage files names)
-    × (IsTrue output.told → AppendsPrefix output.before (output_of h.puts) output.after)
--- memory ran out
-ExecStands names files output NoMemory = MaySave files names × (IsTrue output.told → output.after ≡ output.before)
--- the guest ran to its end
-ExecStands names files output (Guest outcome) = (h : HasImage files names) × (outcome ≡ Exit (h.status % 256))
-    × (IsTrue output.told → output.after ≡ output.before ++ output_of h.puts)
--- these words are a command
-ExecStands names files output Usage = ⊥
+-- what is left, of the files and of the output, once a unit is built: its image is saved under this name,
+-- and run with so many steps
+abbrev pub BuildLeaves : Course → List ℕ → ℕ → StoreCall → SinkCall → Report → Type 0
+BuildLeaves course name fuel files output (answer.Guest outcome) =
+    (h : HasImage files course name) × RunStands (flat_run h.image fuel) output (answer.Guest outcome)
+BuildLeaves course name fuel files output answer.WriteFault =
+    (h : HasImage files course name) × RunStands (flat_run h.image fuel) output answer.WriteFault
+BuildLeaves course name fuel files output answer.NoMemory =
+    MaySave files course name × (IsTrue output.told → output.after ≡ output.before)
+BuildLeaves course name fuel files output answer.StoreFault = MaySave files course name × (output.after ≡ output.before)
+BuildLeaves course name fuel files output other = ⊥
 
--- What stands after each report that a command has of its own: `Usage` exactly where the words are none.
-abbrev pub Stands : List (List ℕ) → StoreCall → SinkCall → Report → Type 0
-Stands words files output report = MatchOption (command_of words)
-    ((report ≡ Usage) × NothingSaved files × (output.after ≡ output.before))
-    (λ names. ExecStands names files output report)
+-- what `exec` of these units leaves with each report that it may have: a refusal leaves all as it is
+abbrev pub ExecLeaves : List Text → Course → List ℕ → ℕ → StoreCall → SinkCall → Report → Type 0
+ExecLeaves units course name fuel files output answer.NotBuilt = IsUntouched files output
+ExecLeaves units course name fuel files output (answer.Missing unit) = IsUntouched files output × Contains units unit.items
+ExecLeaves units course name fuel files output (answer.Limit which count) = IsUntouched files output
+ExecLeaves units course name fuel files output (answer.Unit number why) = IsUntouched files output
+ExecLeaves units course name fuel files output (answer.Mark definition) = IsUntouched files output
+ExecLeaves units course name fuel files output other = BuildLeaves course name fuel files output other
+
+-- the reports that `check` of these units may have
+abbrev pub IsOfCheck : List Text → Report → Type 0
+IsOfCheck units answer.Checked = Unit {0}
+IsOfCheck units (answer.Missing unit) = Contains units unit.items
+IsOfCheck units (answer.Limit which count) = Unit {0}
+IsOfCheck units (answer.Unit number why) = Unit {0}
+IsOfCheck units answer.StoreFault = Unit {0}
+IsOfCheck units answer.NoMemory = Unit {0}
+IsOfCheck units other = ⊥
+
+-- what a command leaves, with each report that it may have: all but `exec` leave files and output as they are
+abbrev pub Leaves : Option Form → Course → StoreCall → SinkCall → Report → Type 0
+Leaves None course files output report = IsUntouched files output × ((report ≡ answer.Usage) ⊎ (report ≡ answer.NoMemory))
+Leaves (Some (check units)) course files output report = IsUntouched files output × IsOfCheck units report
+Leaves (Some (exec units image marks stack base fuel)) course files output report = ExecLeaves units course image fuel files output report
+Leaves (Some other) course files output report = IsUntouched files output × ((report ≡ answer.NotBuilt) ⊎ (report ≡ answer.NoMemory))
+
+-- what stands after each report that a command has of its own
+pub record Stands (command : Option Form) (files : StoreCall) (output : SinkCall) (report : Report) : Type 0 where
+  pub follows : IsTrue files.told → Follows (course_of command files.before) report
+  pub caused : IsCaused files output report
+  pub leaves : Leaves command (course_of command files.before) files output report
 
 -- the line of a report was put, and the report given; or the sink of lines failed
 abbrev pub Tells : Report → SinkCall → Report → Type 0
 Tells own line report =
     ((report ≡ own) × (IsTrue line.told → line.after ≡ line.before ++ line_of own))
-    ⊎ ((report ≡ WriteFault) × SinkRose line × (IsTrue line.told → AppendsPrefix line.before (line_of own) line.after))
+    ⊎ ((report ≡ answer.WriteFault) × SinkRose line × (IsTrue line.told → AppendsPrefix line.before (line_of own) line.after))
 
--- The command had a report of its own, which stands; what is told and given is this, or that memory
--- for its line ran out.
-pub record Answers (words : List (List ℕ)) (files : StoreCall) (output line : SinkCall) (report : Report) : Type 0 where
+-- The command that the words are had a report of its own, which stands; what is told and given is this, or
+-- that memory for its line ran out.
+pub record Answers (words : List Text) (files : StoreCall) (output line : SinkCall) (report : Report) : Type 0 where
   pub own : Report
-  pub stands : Stands words files output own
+  pub stands : Stands (command_of words) files output own
   pub told : Report
-  pub told_is : (told ≡ own) ⊎ (told ≡ NoMemory)
+  pub told_is : (told ≡ own) ⊎ (told ≡ answer.NoMemory)
   pub tells : Tells told line report
 
--- What stands after `exit k`: the words are a command; the unit that the store held, where it tells, is of
--- the first form; k is its status's low 8 bits; its output was put; its image was saved, and runs so.
-pub record Exited (words : List (List ℕ)) (files : StoreCall) (output : SinkCall) (k : ℕ) : Type 0 where
-  pub names : Names
-  pub command : command_of words ≡ Some names
-  pub image : HasImage files names
+-- ---- what a user may rely on
+
+-- the words of `exec`
+pub record ExecWords : Type 0 where
+  pub units : List Text
+  pub image : Text
+  pub marks : Marks
+  pub stack : ℕ
+  pub base : ℕ
+  pub fuel : ℕ
+
+abbrev pub exec_form : ExecWords → Form
+exec_form e = exec e.units e.image e.marks e.stack e.base e.fuel
+
+-- What stands after `exit k`: the words are `exec`; the unit that the course of the command says, where the
+-- store tells, is of the first form; k is its status's low 8 bits; its output was put; its image was saved, and runs so.
+pub record Exited (words : List Text) (files : StoreCall) (output : SinkCall) (k : ℕ) : Type 0 where
+  pub command : ExecWords
+  pub is_command : command_of words ≡ Some (exec_form command)
+  pub image : HasImage files (course_of (command_of words) files.before) command.image
   pub status : k ≡ image.status % 256
   pub put : IsTrue output.told → output.after ≡ output.before ++ output_of image.puts
 
--- the store held such a unit under the name that the words say, and no count of faults rose
-pub record IsGood (words : List (List ℕ)) (files : StoreCall) (output line : SinkCall) (puts : List ℕ) (status : ℕ) : Type 0 where
-  pub names : Names
-  pub command : command_of words ≡ Some names
-  pub told : IsTrue files.told
-  pub source : List ℕ
-  pub held : files.before names.unit ≡ Some source
-  pub unit : IsUnit source puts status
+-- no count of faults rose
+pub record AllWorked (files : StoreCall) (output line : SinkCall) : Type 0 where
   pub store_worked : ¬ StoreRose files
   pub output_worked : ¬ SinkRose output
   pub line_worked : ¬ SinkRose line
+
+-- the words are `exec`; nothing refuses the command, whose one unit is of the first form; it is given steps
+-- enough; and nothing failed
+pub record IsGood (words : List Text) (files : StoreCall) (output line : SinkCall) (puts : List ℕ) (status : ℕ) : Type 0 where
+  pub command : ExecWords
+  pub is_command : command_of words ≡ Some (exec_form command)
+  pub told : IsTrue files.told
+  pub source : List ℕ
+  pub course : course_of (command_of words) files.before ≡ Builds source
+  pub reads : IsFirstForm puts status source
+  pub enough : 8 * (length puts + 1) ≤ command.fuel
+  pub worked : AllWorked files output line
+
+-- the words are `check`; nothing refuses the units; and nothing failed
+pub record IsSound (words : List Text) (files : StoreCall) (output line : SinkCall) : Type 0 where
+  pub told : IsTrue files.told
+  pub course : course_of (command_of words) files.before ≡ Checks
+  pub worked : AllWorked files output line

@@ -1,3 +1,4 @@
-pub mod Reports
-pub mod Words
+pub mod Definitions
+pub mod Courses
 pub mod Answers
+pub mod Plans

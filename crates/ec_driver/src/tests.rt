@@ -1,126 +1,307 @@
 //! The command over objects in memory, with answers worked out by hand.
 
-use crate::driver::ecc;
-use crate::report::{Outcome, Report, line, status_of};
-use flat_machine::ends::StuckWhy;
+use crate::{ecc, status_of};
 use hx_io::{FailSink, FailStore, MemSink, MemSource, MemStore, Store};
 use std::process::Abort;
 use std::test::Fail;
 
 const HI: &str = "int main(void){put_byte(72);put_byte(361);return 7;}";
 
-fn words_of<R: AllocGlobal>(rt: &R, words: &[&str]) -> Result<Vec<String>, Fail> {
-    let mut owned = Vec::new(rt.alloc());
-    for word in words {
-        owned.push(String::from_str(rt.alloc(), word)?)?;
+/// Two functions behind `main`, which isn't of the first form.
+const MUL: &str =
+    "int mul(int a,int b){return a*b;} int add(int a,int b){return mul(a,2)+b;} int main(void){put_byte(add(30,5));return 0;}";
+
+/// The calls that fail, of the store, the output and the notes.
+#[derive(Clone, Copy)]
+struct Fails<'a> {
+    store: &'a [u64],
+    out: &'a [u64],
+    notes: &'a [u64],
+}
+
+const NONE_FAIL: Fails<'static> = Fails {
+    store: &[],
+    out: &[],
+    notes: &[],
+};
+
+/// What a call answers: the output, the line and the status.
+type Wanted<'a> = (&'a str, &'a str, u8);
+
+fn words_of<R: AllocGlobal>(rt: &R, line: &str) -> Result<Vec<String>, Fail> {
+    let mut words = Vec::new(rt.alloc());
+    if !line.is_empty() {
+        for word in line.split(' ') {
+            words.push(String::from_str(rt.alloc(), word)?)?;
+        }
     }
-    Ok(owned)
+    Ok(words)
 }
 
-fn store_with<R: AllocGlobal>(rt: &R, unit: &str) -> Result<MemStore, Fail> {
-    let mut store = MemStore::new(rt.alloc());
-    store.save(rt.alloc(), "p.c", unit.as_bytes())?;
-    Ok(store)
-}
-
-/// Runs the words over a store in which `p.c` holds the unit, with these calls of the store and the
-/// output failing; compares output, line and status.
+/// Runs the words, cut at blanks, over a store that holds these files and `old.img`; compares what is put,
+/// the line and the status. A command that isn't to save leaves `p.img` missing.
 fn runs<R: Abort + AllocGlobal>(
     rt: &R,
-    words: &[&str],
-    unit: &str,
-    fails: (&[u64], &[u64]),
-    wanted: (&str, &str, u8),
-) -> Result<(), Fail> {
+    line: &str,
+    files: &[(&str, &str)],
+    fails: &Fails<'_>,
+    wanted: Wanted<'_>,
+) -> Result<bool, Fail> {
     let alloc = rt.alloc();
-    let words = words_of(rt, words)?;
-    let mut store = FailStore::new(store_with(rt, unit)?, Vec::from_slice(alloc, fails.0)?);
+    let words = words_of(rt, line)?;
+    let mut files_held = MemStore::new(alloc);
+    for (name, text) in files {
+        files_held.save(alloc, name, text.as_bytes())?;
+    }
+    let mut store = FailStore::new(files_held, Vec::from_slice(alloc, fails.store)?);
     let mut input = MemSource::new(Vec::new(alloc));
-    let mut out = FailSink::new(MemSink::new(alloc, 64)?, Vec::from_slice(alloc, fails.1)?);
-    let mut notes = MemSink::new(alloc, 64)?;
+    let mut out = FailSink::new(MemSink::new(alloc, 64)?, Vec::from_slice(alloc, fails.out)?);
+    let mut notes = FailSink::new(
+        MemSink::new(alloc, 64)?,
+        Vec::from_slice(alloc, fails.notes)?,
+    );
     let report = ecc(alloc, &words, &mut store, &mut input, &mut out, &mut notes);
     assert_eq!(rt;
         out.inner().bytes(),
         wanted.0.as_bytes(),
-        "output of {unit}"
+        "output of {line}"
     );
-    assert_eq!(rt; notes.bytes(), wanted.1.as_bytes(), "line of {unit}");
-    assert_eq!(rt; status_of(&report), wanted.2, "status of {unit}");
-    Ok(())
+    assert_eq!(rt;
+        notes.inner().bytes(),
+        wanted.1.as_bytes(),
+        "line of {line}"
+    );
+    assert_eq!(rt; status_of(&report), wanted.2, "status of {line}");
+    Ok(store.inner().held("p.img").is_some())
 }
 
 #[test]
-fn units_run(rt: HostRuntime) -> Result<(), Fail> {
-    let exec = ["exec", "p.c", "-o", "p.img"];
-    for (unit, output, line, status) in [
-        (HI, "Hi", "exit 7\n", 0),
+fn commands(rt: HostRuntime) -> Result<(), Fail> {
+    let two = [("p.c", HI), ("q.c", "int g;")];
+    for (line, unit, wanted, saves) in [
+        // units that are built, and their options
+        ("exec p.c -o p.img", HI, ("Hi", "exit 7\n", 0), true),
         (
-            " \t\r\n int main(void){put_byte( 33\n) ; return\t0 ;}\n",
-            "!",
-            "exit 0\n",
-            0,
+            "exec p.c -o p.img",
+            "int main(void){return 263;}",
+            ("", "exit 7\n", 0),
+            true,
         ),
-        ("int main(void){return 0;}", "", "exit 0\n", 0),
-        ("int main(void){return 263;}", "", "exit 7\n", 0),
-        ("", "", "not built\n", 29),
-        ("int main(void){return 07;}", "", "not built\n", 29),
         (
-            "int main(void){put_byte(1000);return 0;}",
+            "exec p.c -o p.img -m x64 --stack 65536 --base 5368709120 --fuel 0x18",
+            HI,
+            ("Hi", "exit 7\n", 0),
+            true,
+        ),
+        ("exec p.c --fuel 0 -o p.img", HI, ("", "budget\n", 11), true),
+        (
+            "exec p.c --fuel 5 -o p.img",
+            HI,
+            ("H", "budget\n", 11),
+            true,
+        ),
+        (
+            "exec p.c -o p.img -m ec,main",
+            HI,
+            ("Hi", "exit 7\n", 0),
+            true,
+        ),
+        ("check p.c", HI, ("", "checked\n", 0), false),
+        ("check p.c q.c", HI, ("", "checked\n", 0), false),
+        ("check p.c", MUL, ("", "checked\n", 0), false),
+        // what isn't built yet
+        ("exec p.c -o p.img", MUL, ("", "not built\n", 29), false),
+        ("exec p.c q.c -o p.img", HI, ("", "not built\n", 29), false),
+        (
+            "exec p.c -o p.img --base 65536",
+            HI,
+            ("", "not built\n", 29),
+            false,
+        ),
+        (
+            "exec p.c -o p.img -m ec",
+            HI,
+            ("", "not built\n", 29),
+            false,
+        ),
+        (
+            "exec p.c -o p.img -m x64,main",
+            HI,
+            ("", "not built\n", 29),
+            false,
+        ),
+        ("interp none.c", HI, ("", "not built\n", 29), false),
+        ("compile p.c -o q", HI, ("", "not built\n", 29), false),
+        ("link p.obj -o p.img", HI, ("", "not built\n", 29), false),
+        ("build p.c -o p.img", HI, ("", "not built\n", 29), false),
+        ("run p.img", HI, ("", "not built\n", 29), false),
+        ("gen 1", HI, ("", "not built\n", 29), false),
+        ("many 1 -o p", HI, ("", "not built\n", 29), false),
+        // names of markings
+        (
+            "exec p.c -o p.img -m x64,sub",
+            MUL,
+            ("", "mark sub\n", 22),
+            false,
+        ),
+        ("exec p.c -o p.img -m x64,", MUL, ("", "mark \n", 22), false),
+        (
+            "exec p.c -o p.img -m ec,main,put_byte --base 1",
+            HI,
+            ("", "mark put_byte\n", 22),
+            false,
+        ),
+        // units
+        ("check none.c", HI, ("", "missing none.c\n", 27), false),
+        ("check p.c none.c", "", ("", "missing none.c\n", 27), false),
+        (
+            "exec none.c -o p.img -m x64,sub",
+            HI,
+            ("", "missing none.c\n", 27),
+            false,
+        ),
+        ("check p.c", "", ("", "unit 0: NoMain at 0\n", 20), false),
+        (
+            "exec p.c -o p.img -m x64,sub",
             "",
-            "not built\n",
-            29,
+            ("", "unit 0: NoMain at 0\n", 20),
+            false,
+        ),
+        (
+            "check q.c p.c",
+            "int h(",
+            ("", "unit 1: Syntax at 6\n", 20),
+            false,
+        ),
+        (
+            "check p.c",
+            "#include <x>",
+            ("", "unit 0: Directive at 0\n", 20),
+            false,
+        ),
+        (
+            "check p.c",
+            "int g=18446744073709551616;",
+            ("", "unit 0: BadNumber at 6\n", 20),
+            false,
+        ),
+        (
+            "check p.c",
+            "int main(void){return 0}",
+            ("", "unit 0: Syntax at 23\n", 20),
+            false,
+        ),
+        (
+            "check p.c",
+            "int main(void){int a;int*p=&a;return 0;}",
+            ("", "unit 0: NoAddress at 27\n", 20),
+            false,
+        ),
+        (
+            "check p.c",
+            "int f(int n,...){return n;}int main(void){return f(2,1);}",
+            ("", "unit 0: VariadicCount at 50\n", 20),
+            false,
+        ),
+        (
+            "exec p.c -o p.img -m x64,sub --base 1",
+            "int main(void){return 7;}x",
+            ("", "unit 0: Syntax at 26\n", 20),
+            false,
         ),
     ] {
-        runs(&rt, &exec, unit, (&[], &[]), (output, line, status))?;
+        let saved = runs(&rt, line, &[("p.c", unit), two[1]], &NONE_FAIL, wanted)?;
+        assert_eq!(rt; saved, saves, "image of {line}");
     }
-    runs(&rt, &exec, HI, (&[0], &[]), ("", "store fault\n", 30))?;
-    runs(&rt, &exec, HI, (&[1], &[]), ("", "store fault\n", 30))?;
-    runs(&rt, &exec, HI, (&[], &[1]), ("H", "write fault\n", 32))?;
-    runs(
-        &rt,
-        &["exec", "q.c", "-o", "p.img"],
-        HI,
-        (&[], &[]),
-        ("", "missing q.c\n", 27),
-    )
+    Ok(())
 }
 
 #[test]
 fn other_words_are_usage(rt: HostRuntime) -> Result<(), Fail> {
-    for words in [
-        [].as_slice(),
-        &["exec", "p.c"],
-        &["exec", "p.c", "-o"],
-        &["exec", "", "-o", "p.img"],
-        &["exec", "-p.c", "-o", "p.img"],
-        &["exec", "p.c", "-o", "-"],
-        &["exec", "p.c", "-O", "p.img"],
-        &["run", "p.c", "-o", "p.img"],
-        &["exec", "p.c", "-o", "p.img", "p.c"],
+    for line in [
+        "",
+        "build p.c",
+        "run a b",
+        "check",
+        "check  p.c",
+        "run p.img --fuel -1",
+        "run p.img --fuel=5",
+        "check p.c --fuel 5",
+        "exec p.c",
+        "exec p.c -o",
+        "exec  -o p.img",
+        "exec -p.c -o p.img",
+        "exec -o p.img p.c",
+        "exec p.c -o p.img -o q.img",
+        "exec p.c -o p.img --stack 65535",
+        "exec p.c -o p.img --stack 268435457",
+        "exec p.c -o p.img --fuel 1000000000001",
+        "exec p.c -o p.img --fuel 0x",
+        "exec p.c -o p.img --base 18446744073709551616",
+        "exec p.c -o p.img -m b8",
+        "gen 1 --size 0",
+        "frob p.c",
     ] {
-        runs(&rt, words, HI, (&[], &[]), ("", "usage\n", 2))?;
+        let saved = runs(&rt, line, &[("p.c", HI)], &NONE_FAIL, ("", "usage\n", 2))?;
+        assert!(rt; !saved, "image of {line}");
     }
     Ok(())
 }
 
 #[test]
-fn lines_of_reports(rt: HostRuntime) -> Result<(), Fail> {
-    let alloc = rt.alloc();
-    for (outcome, text) in [
-        (Outcome::Trap(241), "trap 241\n"),
-        (Outcome::Budget, "budget\n"),
-        (Outcome::StackSpent, "stack spent\n"),
+fn failing_objects(rt: HostRuntime) -> Result<(), Fail> {
+    let fault = ("", "store fault\n", 30);
+    for (line, store, out, notes, wanted) in [
         (
-            Outcome::Stuck(StuckWhy::Halt, 0x1_4000_1000),
-            "stuck Halt at 0x140001000\n",
+            "exec p.c -o p.img",
+            [0].as_slice(),
+            [].as_slice(),
+            [].as_slice(),
+            fault,
+        ),
+        ("exec p.c -o p.img", &[1], &[], &[], fault),
+        ("check p.c", &[0], &[], &[], fault),
+        ("check p.c q.c", &[1], &[], &[], fault),
+        (
+            "exec p.c -o p.img",
+            &[],
+            &[0],
+            &[],
+            ("", "write fault\n", 32),
         ),
         (
-            Outcome::Stuck(StuckWhy::NoRange, 0),
-            "stuck NoRange at 0x0\n",
+            "exec p.c -o p.img",
+            &[],
+            &[1],
+            &[],
+            ("H", "write fault\n", 32),
         ),
+        ("exec p.c -o p.img", &[], &[], &[0], ("Hi", "", 32)),
+        ("check p.c", &[], &[0], &[0], ("", "", 32)),
+        ("check p.c", &[1], &[0], &[1], ("", "checked\n", 0)),
     ] {
-        let report = Report::Guest(outcome);
-        assert_eq!(rt; line(alloc, &report)?.as_slice(), text.as_bytes());
+        let fails = Fails { store, out, notes };
+        runs(&rt, line, &[("p.c", HI), ("q.c", "int g;")], &fails, wanted)?;
+    }
+    Ok(())
+}
+
+#[test]
+fn units_of_many_bytes(rt: HostRuntime) -> Result<(), Fail> {
+    let alloc = rt.alloc();
+    for (bytes, line, status) in [
+        (1_048_576, "unit 0: NoMain at 0\n", 20),
+        (1_048_577, "limit unit-bytes 1048577\n", 21),
+    ] {
+        let words = words_of(&rt, "check p.c")?;
+        let mut store = MemStore::new(alloc);
+        store.save(alloc, "p.c", &vec![in alloc; b' '; bytes]?)?;
+        let mut input = MemSource::new(Vec::new(alloc));
+        let mut out = MemSink::new(alloc, 0)?;
+        let mut notes = MemSink::new(alloc, 64)?;
+        let report = ecc(alloc, &words, &mut store, &mut input, &mut out, &mut notes);
+        assert_eq!(rt; notes.bytes(), line.as_bytes());
+        assert_eq!(rt; status_of(&report), status);
     }
     Ok(())
 }
@@ -128,13 +309,14 @@ fn lines_of_reports(rt: HostRuntime) -> Result<(), Fail> {
 #[test]
 fn a_guest_that_ran_left_its_image(rt: HostRuntime) -> Result<(), Fail> {
     let alloc = rt.alloc();
-    let words = words_of(&rt, &["exec", "p.c", "-o", "p.img"])?;
-    let mut store = store_with(&rt, "int main(void){return 1;}")?;
+    let words = words_of(&rt, "exec p.c -o p.img")?;
+    let mut store = MemStore::new(alloc);
+    store.save(alloc, "p.c", b"int main(void){return 1;}")?;
     let mut input = MemSource::new(Vec::new(alloc));
     let mut out = MemSink::new(alloc, 0)?;
     let mut notes = MemSink::new(alloc, 8)?;
     let report = ecc(alloc, &words, &mut store, &mut input, &mut out, &mut notes);
-    assert_eq!(rt; report, Report::Guest(Outcome::Exit(1)));
+    assert_eq!(rt; status_of(&report), 0);
     // sub rsp,32; mov rcx,1; mov rax,0x7fff00000050; call rax; ud2, by GNU as
     let image =
         b"\x48\x83\xEC\x20\x48\xB9\x01\0\0\0\0\0\0\0\x48\xB8\x50\0\0\0\xFF\x7F\0\0\xFF\xD0\x0F\x0B";

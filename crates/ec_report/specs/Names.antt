@@ -2,8 +2,8 @@
 use Rattle.std.specs.Prelude.{ℕ, List, codes}
 use Rattle.ec_report.specs.declared.kinds.StuckWhy.{StuckWhy}
 use Rattle.ec_report.specs.declared.kinds.StuckWhy.TheVariants.{NoRange, Misaligned, BadInstruction, Blocked, Unmapped, Protected, Divide, Halt, BadSwitch, NoThunk, BadTarget}
-use Rattle.ec_report.specs.declared.kinds.TypeKind.{TypeKind}
-use Rattle.ec_report.specs.declared.kinds.TypeKind.TheVariants.{Redeclared, Unknown, Incomplete, BadType, NotValue, NotPlace, NoAddress, NotPointer, NoField, NotArray, NotInteger, NotScalar, Mismatch, NotFunction, ArgumentCount, VariadicCount, Variadic, BadInitial, Flow, BadAdjustor, Undefined, NoMain}
+use Rattle.c_typing.specs.declared.faults.TypeKind.{TypeKind}
+use Rattle.c_typing.specs.declared.faults.TypeKind.TheVariants.{Redeclared, Unknown, Incomplete, BadType, NotValue, NotPlace, NoAddress, NotPointer, NoField, NotArray, NotInteger, NotScalar, Mismatch, NotFunction, ArgumentCount, VariadicCount, Variadic, BadInitial, Flow, BadAdjustor, Undefined, NoMain}
 use Rattle.ec_report.specs.declared.kinds.LimitKind.{LimitKind}
 use Rattle.ec_report.specs.declared.kinds.LimitKind.TheVariants.{Units, Objects, UnitBytes, AllBytes, Nodes, Functions, Parameters, Extras, StructBytes, FrameBytes, GlobalBytes, NameBytes}
 use Rattle.ec_report.specs.declared.kinds.LoadRefusal.{LoadRefusal}

@@ -1,5 +1,7 @@
 //! What the reports of a command hold.
 
+pub use c_typing::TypeKind;
+
 /// Why a step of the machine is none: the first of these that holds, in this order.
 #[derive(Clone, Copy, Debug, PartialEq, Eq)]
 pub enum StuckWhy {
@@ -40,55 +42,6 @@ pub enum Outcome {
     StackSpent,
     /// The machine has no step, for this reason at this program counter.
     Stuck(StuckWhy, u64),
-}
-
-/// Which rule of the types a unit of the grammar breaks.
-#[derive(Clone, Copy, Debug, PartialEq, Eq)]
-pub enum TypeKind {
-    /// A name or a tag stands again where it may not, or otherwise than before.
-    Redeclared,
-    /// A name or a tag that the unit doesn't declare before its use.
-    Unknown,
-    /// A struct that isn't defined yet, other than behind a pointer.
-    Incomplete,
-    /// `void` other than as a result, an array of no elements, or a type that is too large.
-    BadType,
-    /// A value is wanted of what has none, as an array or `void`.
-    NotValue,
-    /// An operand that must be a place is none, or is an array.
-    NotPlace,
-    /// The address of a local or a parameter, or of a part of one.
-    NoAddress,
-    /// `*` or `->` on what is no pointer.
-    NotPointer,
-    /// `.` or `->` on what is no struct, or a field that the struct hasn't.
-    NoField,
-    /// `[ ]` on what is no array.
-    NotArray,
-    /// An operand or an index that must be an integer is none.
-    NotInteger,
-    /// A condition, or an operand of `!`, `&&` or `||`, is a struct.
-    NotScalar,
-    /// Two types differ where nothing converts, or structs are compared.
-    Mismatch,
-    /// A call of what is no function.
-    NotFunction,
-    /// Too few arguments, or too many for a function that isn't variadic.
-    ArgumentCount,
-    /// The last fixed argument isn't the number of the extra arguments.
-    VariadicCount,
-    /// A variadic function, an extra argument or a list of them that isn't as it must be.
-    Variadic,
-    /// An initial value that is no constant of the type, or too many of them.
-    BadInitial,
-    /// `break` or `continue` outside a loop, or a `return` that doesn't fit the result.
-    Flow,
-    /// An adjustor of what is no function, or of a parameter or by a number that can't be adjusted.
-    BadAdjustor,
-    /// A function or a global that is declared and never defined.
-    Undefined,
-    /// No `int main(void)` is defined.
-    NoMain,
 }
 
 /// Why a unit is refused, with its first place in the unit, in bytes.

@@ -1,4 +1,4 @@
-use Rattle.ec_driver.proofs.Claims.{exited, completes}
+use Rattle.ec_driver.proofs.Claims.{exited, completes, checks}
 use Rattle.ec_driver.proofs.driver.ecc.Goals as goal
 
 pub returns-clause-answers : goal.returns-clause-answers
@@ -9,6 +9,9 @@ returns-clause-answers g c = record {
   told_is = c.tell.ensures.1;
   tells = c.tell.ensures.2;
 }
+
+pub returns-clause-checks : goal.returns-clause-checks
+returns-clause-checks g c = checks _ _ _ _ c.tell.result (returns-clause-answers g c)
 
 pub returns-clause-exit : goal.returns-clause-exit
 returns-clause-exit g c = exited _ _ _ _ c.tell.result (returns-clause-answers g c)

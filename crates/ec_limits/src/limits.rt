@@ -1,0 +1,96 @@
+ghost use Rattle.std.specs.Prelude.{◌≡◌, length, map, sum_by};
+ghost use Rattle.c_types.specs.Layout.{size_of};
+ghost use Rattle.c_types.specs.declared.types.FunTy.{FunTy};
+ghost use Rattle.c_types.specs.declared.types.Ty.TheVariants.{Struct};
+ghost use Rattle.c_program.specs.declared.program.GlobalDef.{GlobalDef};
+ghost use Rattle.c_program.specs.Nodes.{small};
+ghost use Rattle.ec_limits.specs.Limits.{greatest_by, greatest_below, places, function_count, frame_bytes, counts, told, passed};
+
+use crate::counts::{Count, Passed, first_passed};
+use c_program::{GlobalDef, Program, frame_bytes, nodes};
+use c_types::{FunTy, Ty, Types, size};
+use ec_report::LimitKind;
+
+/// As many places as a program can name.
+const PLACES: u64 = 1 << 32;
+
+fn function_count(p: &Program) -> u64
+    ensures { result ≡ small (function_count p.now) }
+{
+    (p.functions.len() as u64).saturating_add(p.adjustors.len() as u64)
+}
+
+fn parameter_count(funs: &[FunTy]) -> u64
+    ensures { result ≡ greatest_by (λ (f : FunTy). length f.params) funs.now }
+{
+    let mut most = 0;
+    for f in funs {
+        most = most.max(f.params.len() as u64);
+    }
+    most
+}
+
+#[tactic(auto, using(crate::proofs::Greatest::below_laws))]
+fn struct_bytes(types: &Types) -> u64
+    ensures { result ≡ greatest_below (places (length types.now.structs)) (λ k. size_of types.now (Struct k)) }
+{
+    let count = (types.structs.len() as u64).min(PLACES);
+    let mut most = 0;
+    for place in 0..count {
+        most = most.max(size(types, Ty::Struct(place as u32)));
+    }
+    most
+}
+
+#[tactic(auto, using(crate::proofs::Greatest::below_laws))]
+fn greatest_frame(p: &Program) -> u64
+    ensures { result ≡ small (frame_bytes p.now) }
+{
+    let count = function_count(p).min(PLACES);
+    let mut most = 0;
+    for place in 0..count {
+        most = most.max(frame_bytes(p, place as u32));
+    }
+    most
+}
+
+fn global_bytes(types: &Types, globals: &[GlobalDef]) -> u64
+    ensures { result ≡ small (sum_by (λ (g : GlobalDef). size_of types.now g.ty) globals.now) }
+{
+    let mut total = 0;
+    for global in globals {
+        total = size(types, global.ty).saturating_add(total);
+    }
+    total
+}
+
+/// What is counted of a program, in order.
+fn counts(p: &Program, longest_name: u64) -> [Count; 8]
+    ensures { result ≡ map told (counts p.now longest_name) }
+{
+    let globals = global_bytes(&p.types, p.globals.as_slice());
+    [
+        Count::new(LimitKind::Nodes, 65_536, nodes(p)),
+        Count::new(LimitKind::Functions, 4_096, function_count(p)),
+        Count::new(
+            LimitKind::Parameters,
+            64,
+            parameter_count(p.types.funs.as_slice()),
+        ),
+        Count::new(LimitKind::Extras, 256, u64::from(p.extras)),
+        Count::new(LimitKind::StructBytes, 65_536, struct_bytes(&p.types)),
+        Count::new(LimitKind::FrameBytes, 524_288, greatest_frame(p)),
+        Count::new(LimitKind::GlobalBytes, 33_554_432, globals),
+        Count::new(LimitKind::NameBytes, 255, longest_name),
+    ]
+}
+
+/// The first limit that a program passes, whose units' longest identifier has so many bytes: more than
+/// 65,536 nodes, 4,096 functions and adjustors, 64 parameters of a function's type, 256 extra arguments
+/// of a call, 65,536 bytes of a struct, 524,288 of a frame, 33,554,432 of all globals, or 255 of an
+/// identifier, in this order. It takes no memory.
+pub fn first_limit(p: &Program, longest_name: u64) -> Option<Passed>
+    ensures { result ≡ passed p.now longest_name }
+{
+    first_passed(&counts(p, longest_name))
+}
