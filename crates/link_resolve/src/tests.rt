@@ -155,11 +155,7 @@ fn symbol(alloc: Global, word: &[u8], number: usize) -> Result<ObjSymbol, AllocE
         [b'.', rest @ ..] => (rest, false),
         _ => (name, true),
     };
-    let section = if place == b'A' {
-        65_535
-    } else {
-        digit(place)
-    };
+    let section = if place == b'A' { 65_535 } else { digit(place) };
     Ok(ObjSymbol {
         name: Items::from_slice(alloc, name)?,
         value: number.min(99) as u32,
