@@ -29,8 +29,8 @@ def best(program, folder, calls):
 def main():
     program = os.path.abspath(sys.argv[1])
     with tempfile.TemporaryDirectory() as folder:
-        one, two = best(program, folder, 40_000), best(program, folder, 80_000)
-    print(f"40,000 calls {one * 1000:.0f} ms, 80,000 calls {two * 1000:.0f} ms, ratio {two / one:.2f}")
+        one, two = best(program, folder, 10_000), best(program, folder, 20_000)
+    print(f"10,000 calls {one * 1000:.0f} ms, 20,000 calls {two * 1000:.0f} ms, ratio {two / one:.2f}")
 
 
 main()
