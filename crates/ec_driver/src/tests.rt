@@ -19,14 +19,14 @@ struct Fails<'a> {
     notes: &'a [u64],
 }
 
-const NONE_FAIL: Fails<'static> = Fails {
+static NONE_FAIL: Fails<'static> = Fails {
     store: &[],
     out: &[],
     notes: &[],
 };
 
-/// What a call answers: the output, the line and the status.
-type Wanted<'a> = (&'a str, &'a str, u8);
+/// Words, the unit `p.c`, and what is put, told and answered.
+type Row = (&'static str, &'static str, &'static str, &'static str, u8);
 
 fn words_of<R: AllocGlobal>(rt: &R, line: &str) -> Result<Vec<String>, Fail> {
     let mut words = Vec::new(rt.alloc());
@@ -39,18 +39,18 @@ fn words_of<R: AllocGlobal>(rt: &R, line: &str) -> Result<Vec<String>, Fail> {
 }
 
 /// Runs the words, cut at blanks, over a store that holds this unit as `p.c`, and another as `q.c`;
-/// compares what is put, the line and the status. Whether an image was saved.
+/// compares what is put, the line and the status. The image, if one was saved.
 fn runs<R: Abort + AllocGlobal>(
     rt: &R,
     line: &str,
-    unit: &str,
+    unit: &[u8],
     fails: &Fails<'_>,
-    wanted: Wanted<'_>,
-) -> Result<bool, Fail> {
+    wanted: (&str, &str, u8),
+) -> Result<Option<Vec<u8>>, Fail> {
     let alloc = rt.alloc();
     let words = words_of(rt, line)?;
     let mut files_held = MemStore::new(alloc);
-    files_held.save(alloc, "p.c", unit.as_bytes())?;
+    files_held.save(alloc, "p.c", unit)?;
     files_held.save(alloc, "q.c", b"int g;")?;
     let mut store = FailStore::new(files_held, Vec::from_slice(alloc, fails.store)?);
     let mut input = MemSource::new(Vec::new(alloc));
@@ -71,11 +71,23 @@ fn runs<R: Abort + AllocGlobal>(
         "line of {line}"
     );
     assert_eq!(rt; status_of(&report), wanted.2, "status of {line}");
-    Ok(store.inner().held("p.img").is_some())
+    match store.inner().held("p.img") {
+        Some(image) => Ok(Some(Vec::from_slice(alloc, image)?)),
+        None => Ok(None),
+    }
 }
 
-/// Words, the unit `p.c`, and what is put, told and answered; the image is saved.
-const BUILT: [(&str, &str, &str, &str, u8); 6] = [
+fn rows<R: Abort + AllocGlobal>(rt: &R, rows: &[Row], is_saved: bool) -> Result<(), Fail> {
+    for (line, unit, output, note, status) in rows {
+        let wanted = (*output, *note, *status);
+        let image = runs(rt, line, unit.as_bytes(), &NONE_FAIL, wanted)?;
+        assert_eq!(rt; image.is_some(), is_saved, "image of {line}");
+    }
+    Ok(())
+}
+
+/// The image is saved.
+static BUILT: [Row; 6] = [
     ("exec p.c -o p.img", HI, "Hi", "exit 7\n", 0),
     (
         "exec p.c -o p.img",
@@ -96,82 +108,96 @@ const BUILT: [(&str, &str, &str, &str, u8); 6] = [
     ("exec p.c -o p.img -m ec,main", HI, "Hi", "exit 7\n", 0),
 ];
 
-/// Words, the unit `p.c`, and what is told and answered; nothing is put, and no image is saved.
-const OTHERS: [(&str, &str, &str, u8); 30] = [
-    ("check p.c", HI, "checked\n", 0),
-    ("check p.c q.c", HI, "checked\n", 0),
-    ("check p.c", MUL, "checked\n", 0),
-    ("exec p.c -o p.img", MUL, "not built\n", 29),
-    ("exec p.c q.c -o p.img", HI, "not built\n", 29),
-    ("exec p.c -o p.img --base 65536", HI, "not built\n", 29),
-    ("exec p.c -o p.img -m ec", HI, "not built\n", 29),
-    ("exec p.c -o p.img -m x64,main", HI, "not built\n", 29),
-    ("interp none.c", HI, "not built\n", 29),
-    ("compile p.c -o q", HI, "not built\n", 29),
-    ("link p.obj -o p.img", HI, "not built\n", 29),
-    ("build p.c -o p.img", HI, "not built\n", 29),
-    ("run p.img", HI, "not built\n", 29),
-    ("gen 1", HI, "not built\n", 29),
-    ("many 1 -o p", HI, "not built\n", 29),
-    ("exec p.c -o p.img -m x64,sub", MUL, "mark sub\n", 22),
-    ("exec p.c -o p.img -m x64,", MUL, "mark \n", 22),
+/// Nothing is put, and no image is saved.
+static OTHERS: [Row; 30] = [
+    ("check p.c", HI, "", "checked\n", 0),
+    ("check p.c q.c", HI, "", "checked\n", 0),
+    ("check p.c", MUL, "", "checked\n", 0),
+    ("exec p.c -o p.img", MUL, "", "not built\n", 29),
+    ("exec p.c q.c -o p.img", HI, "", "not built\n", 29),
+    ("exec p.c -o p.img --base 65536", HI, "", "not built\n", 29),
+    ("exec p.c -o p.img -m ec", HI, "", "not built\n", 29),
+    ("exec p.c -o p.img -m x64,main", HI, "", "not built\n", 29),
+    ("interp none.c", HI, "", "not built\n", 29),
+    ("compile p.c -o q", HI, "", "not built\n", 29),
+    ("link p.obj -o p.img", HI, "", "not built\n", 29),
+    ("build p.c -o p.img", HI, "", "not built\n", 29),
+    ("run p.img", HI, "", "not built\n", 29),
+    ("gen 1", HI, "", "not built\n", 29),
+    ("many 1 -o p", HI, "", "not built\n", 29),
+    ("exec p.c -o p.img -m x64,sub", MUL, "", "mark sub\n", 22),
+    ("exec p.c -o p.img -m x64,", MUL, "", "mark \n", 22),
     (
         "exec p.c -o p.img -m ec,main,put_byte --base 1",
         HI,
+        "",
         "mark put_byte\n",
         22,
     ),
-    ("check none.c", HI, "missing none.c\n", 27),
-    ("check p.c none.c", "", "missing none.c\n", 27),
+    ("check none.c", HI, "", "missing none.c\n", 27),
+    ("check p.c none.c", "", "", "missing none.c\n", 27),
     (
         "exec none.c -o p.img -m x64,sub",
         HI,
+        "",
         "missing none.c\n",
         27,
     ),
-    ("check p.c", "", "unit 0: NoMain at 0\n", 20),
+    ("check p.c", "", "", "unit 0: NoMain at 0\n", 20),
     (
         "exec p.c -o p.img -m x64,sub",
+        "",
         "",
         "unit 0: NoMain at 0\n",
         20,
     ),
-    ("check q.c p.c", "int h(", "unit 1: Syntax at 6\n", 20),
-    ("check p.c", "#include <x>", "unit 0: Directive at 0\n", 20),
+    ("check q.c p.c", "int h(", "", "unit 1: Syntax at 6\n", 20),
+    (
+        "check p.c",
+        "#include <x>",
+        "",
+        "unit 0: Directive at 0\n",
+        20,
+    ),
     (
         "check p.c",
         "int g=18446744073709551616;",
+        "",
         "unit 0: BadNumber at 6\n",
         20,
     ),
     (
         "check p.c",
         "int main(void){return 0}",
+        "",
         "unit 0: Syntax at 23\n",
         20,
     ),
     (
         "check p.c",
         "int main(void){int a;int*p=&a;return 0;}",
+        "",
         "unit 0: NoAddress at 27\n",
         20,
     ),
     (
         "check p.c",
         "int f(int n,...){return n;}int main(void){return f(2,1);}",
+        "",
         "unit 0: VariadicCount at 50\n",
         20,
     ),
     (
         "exec p.c -o p.img -m x64,sub --base 1",
         "int main(void){return 7;}x",
+        "",
         "unit 0: Syntax at 26\n",
         20,
     ),
 ];
 
 /// Words that are no command.
-const USAGE: [&str; 22] = [
+static USAGE: [&str; 22] = [
     "",
     "build p.c",
     "run a b",
@@ -198,101 +224,141 @@ const USAGE: [&str; 22] = [
 
 #[test]
 fn commands(rt: HostRuntime) -> Result<(), Fail> {
-    for (line, unit, output, note, status) in BUILT {
-        let saved = runs(&rt, line, unit, &NONE_FAIL, (output, note, status))?;
-        assert!(rt; saved, "image of {line}");
-    }
-    for (line, unit, note, status) in OTHERS {
-        let saved = runs(&rt, line, unit, &NONE_FAIL, ("", note, status))?;
-        assert!(rt; !saved, "image of {line}");
-    }
-    for line in USAGE {
-        let saved = runs(&rt, line, HI, &NONE_FAIL, ("", "usage\n", 2))?;
-        assert!(rt; !saved, "image of {line}");
+    rows(&rt, &BUILT, true)?;
+    rows(&rt, &OTHERS, false)?;
+    for line in &USAGE {
+        let image = runs(&rt, line, HI.as_bytes(), &NONE_FAIL, ("", "usage\n", 2))?;
+        assert!(rt; image.is_none(), "image of {line}");
     }
     Ok(())
 }
 
-/// Words, the calls of the store, the output and the notes that fail, and what is put, told and answered.
-const FAILING: [(&str, [&[u64]; 3], &str, &str, u8); 9] = [
+/// Words, the calls that fail, and what is put, told and answered.
+static FAILING: [(&str, Fails<'static>, &str, &str, u8); 9] = [
     (
         "exec p.c -o p.img",
-        [&[0], &[], &[]],
+        Fails {
+            store: &[0],
+            out: &[],
+            notes: &[],
+        },
         "",
         "store fault\n",
         30,
     ),
     (
         "exec p.c -o p.img",
-        [&[1], &[], &[]],
+        Fails {
+            store: &[1],
+            out: &[],
+            notes: &[],
+        },
         "",
         "store fault\n",
         30,
     ),
-    ("check p.c", [&[0], &[], &[]], "", "store fault\n", 30),
-    ("check p.c q.c", [&[1], &[], &[]], "", "store fault\n", 30),
+    (
+        "check p.c",
+        Fails {
+            store: &[0],
+            out: &[],
+            notes: &[],
+        },
+        "",
+        "store fault\n",
+        30,
+    ),
+    (
+        "check p.c q.c",
+        Fails {
+            store: &[1],
+            out: &[],
+            notes: &[],
+        },
+        "",
+        "store fault\n",
+        30,
+    ),
     (
         "exec p.c -o p.img",
-        [&[], &[0], &[]],
+        Fails {
+            store: &[],
+            out: &[0],
+            notes: &[],
+        },
         "",
         "write fault\n",
         32,
     ),
     (
         "exec p.c -o p.img",
-        [&[], &[1], &[]],
+        Fails {
+            store: &[],
+            out: &[1],
+            notes: &[],
+        },
         "H",
         "write fault\n",
         32,
     ),
-    ("exec p.c -o p.img", [&[], &[], &[0]], "Hi", "", 32),
-    ("check p.c", [&[], &[0], &[0]], "", "", 32),
-    ("check p.c", [&[1], &[0], &[1]], "", "checked\n", 0),
+    (
+        "exec p.c -o p.img",
+        Fails {
+            store: &[],
+            out: &[],
+            notes: &[0],
+        },
+        "Hi",
+        "",
+        32,
+    ),
+    (
+        "check p.c",
+        Fails {
+            store: &[],
+            out: &[0],
+            notes: &[0],
+        },
+        "",
+        "",
+        32,
+    ),
+    (
+        "check p.c",
+        Fails {
+            store: &[1],
+            out: &[0],
+            notes: &[1],
+        },
+        "",
+        "checked\n",
+        0,
+    ),
 ];
 
 #[test]
 fn failing_objects(rt: HostRuntime) -> Result<(), Fail> {
-    for (line, [store, out, notes], output, note, status) in FAILING {
-        let fails = Fails { store, out, notes };
-        runs(&rt, line, HI, &fails, (output, note, status))?;
+    for (line, fails, output, note, status) in &FAILING {
+        runs(&rt, line, HI.as_bytes(), fails, (*output, *note, *status))?;
     }
     Ok(())
 }
 
-#[test]
-fn units_of_many_bytes(rt: HostRuntime) -> Result<(), Fail> {
-    let alloc = rt.alloc();
-    for (bytes, line, status) in [
-        (1_048_576, "unit 0: NoMain at 0\n", 20),
-        (1_048_577, "limit unit-bytes 1048577\n", 21),
-    ] {
-        let words = words_of(&rt, "check p.c")?;
-        let mut store = MemStore::new(alloc);
-        store.save(alloc, "p.c", &vec![in alloc; b' '; bytes]?)?;
-        let mut input = MemSource::new(Vec::new(alloc));
-        let mut out = MemSink::new(alloc, 0)?;
-        let mut notes = MemSink::new(alloc, 64)?;
-        let report = ecc(alloc, &words, &mut store, &mut input, &mut out, &mut notes);
-        assert_eq!(rt; notes.bytes(), line.as_bytes());
-        assert_eq!(rt; status_of(&report), status);
-    }
-    Ok(())
-}
+/// sub rsp,32; mov rcx,1; mov rax,0x7fff00000050; call rax; ud2, by GNU as
+static ONE: &[u8] =
+    b"\x48\x83\xEC\x20\x48\xB9\x01\0\0\0\0\0\0\0\x48\xB8\x50\0\0\0\xFF\x7F\0\0\xFF\xD0\x0F\x0B";
 
 #[test]
-fn a_guest_that_ran_left_its_image(rt: HostRuntime) -> Result<(), Fail> {
-    let alloc = rt.alloc();
-    let words = words_of(&rt, "exec p.c -o p.img")?;
-    let mut store = MemStore::new(alloc);
-    store.save(alloc, "p.c", b"int main(void){return 1;}")?;
-    let mut input = MemSource::new(Vec::new(alloc));
-    let mut out = MemSink::new(alloc, 0)?;
-    let mut notes = MemSink::new(alloc, 8)?;
-    let report = ecc(alloc, &words, &mut store, &mut input, &mut out, &mut notes);
-    assert_eq!(rt; status_of(&report), 0);
-    // sub rsp,32; mov rcx,1; mov rax,0x7fff00000050; call rax; ud2, by GNU as
-    let image =
-        b"\x48\x83\xEC\x20\x48\xB9\x01\0\0\0\0\0\0\0\x48\xB8\x50\0\0\0\xFF\x7F\0\0\xFF\xD0\x0F\x0B";
-    assert_eq!(rt; store.held("p.img").ok_or("no image")?, image.as_slice());
+fn an_image_and_long_units(rt: HostRuntime) -> Result<(), Fail> {
+    let unit = b"int main(void){return 1;}";
+    let wanted = ("", "exit 1\n", 0);
+    let image = runs(&rt, "exec p.c -o p.img", unit, &NONE_FAIL, wanted)?;
+    assert_eq!(rt; image.ok_or("no image")?.as_slice(), ONE);
+    let blanks = vec![in rt.alloc(); b' '; 1_048_576]?;
+    let wanted = ("", "unit 0: NoMain at 0\n", 20);
+    runs(&rt, "check p.c", &blanks, &NONE_FAIL, wanted)?;
+    let more = vec![in rt.alloc(); b' '; 1_048_577]?;
+    let wanted = ("", "limit unit-bytes 1048577\n", 21);
+    runs(&rt, "check p.c", &more, &NONE_FAIL, wanted)?;
     Ok(())
 }
