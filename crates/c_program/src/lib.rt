@@ -15,7 +15,7 @@ mod statements;
 mod value_types;
 
 pub use c_types::{IntTy, Ty, Types};
-pub use counting::nodes;
+pub use counting::{nodes, nodes_of_function};
 pub use expressions::{Arithmetic, Comparison, Place, Service, Target, TypedExpr};
 pub use frames::frame_bytes;
 pub use named::function_named;
