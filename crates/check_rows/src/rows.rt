@@ -13,7 +13,7 @@ pub type Program = (&'static [&'static [u8]], &'static str);
 pub type Counted = (&'static [u8], u64);
 
 /// A name or a tag that is declared again, or not before its use.
-pub static NAMES: [Row; 53] = [
+pub static NAMES: [Row; 57] = [
     (b"int x;int x;", "Redeclared in 0 at 10"),
     (b"extern int x;int x;", "ok"),
     (
@@ -115,6 +115,10 @@ pub static NAMES: [Row; 53] = [
     (b"int f(int a);int g(void){return a;}", "Unknown in 0 at 32"),
     (b"int f(int a);int g(int a){return a;}", "ok"),
     (b"int f(void){int x=x;return x;}", "ok"),
+    (b"int f(int exit);", "Redeclared in 0 at 10"),
+    (b"int f(int exits);", "ok"),
+    (b"typedef int (*F)(int put_byte);", "Redeclared in 0 at 21"),
+    (b"struct exit{int exit;};", "ok"),
 ];
 
 /// A type that isn't there, or not yet.
@@ -321,7 +325,7 @@ pub static OPERANDS: [Row; 59] = [
 ];
 
 /// Calls, and functions that more arguments can follow.
-pub static CALLS: [Row; 46] = [
+pub static CALLS: [Row; 48] = [
     (b"void g(int *p);void f(void){g(1);}", "Mismatch in 0 at 29"),
     (b"void g(int *p);void f(void){g(0);}", "ok"),
     (b"int f(int x){return x();}", "NotFunction in 0 at 21"),
@@ -413,10 +417,12 @@ pub static CALLS: [Row; 46] = [
         "Variadic in 0 at 30",
     ),
     (b"struct B{char a[4];};struct B v(int n,...);", "ok"),
+    (b"int a[2];int f(void){return a();}", "NotFunction in 0 at 29"),
+    (b"void v(int n,...){va_list p;va_start(n,n);}", "Mismatch in 0 at 28"),
 ];
 
 /// Initial values, jumps and adjustors.
-pub static REST: [Row; 44] = [
+pub static REST: [Row; 49] = [
     (b"int h;int g=h;", "BadInitial in 0 at 12"),
     (b"int h;int *g=&h;", "ok"),
     (b"int a[2]={1,2,3};", "BadInitial in 0 at 9"),
@@ -500,10 +506,15 @@ pub static REST: [Row; 44] = [
         b"int f(int x);__adjustor a=f,1,1;__adjustor b=a,1,-1;",
         "ok",
     ),
+    (b"int a={1};", "BadInitial in 0 at 6"),
+    (b"int a[1]={1};", "ok"),
+    (b"int a[2];int *p=&a[2];", "BadInitial in 0 at 16"),
+    (b"int a[2];int *p=&a[1];", "ok"),
+    (b"__adjustor a=put_byte,1,1;", "BadAdjustor in 0 at 11"),
 ];
 
 /// Kinds that meet at one node: the first of the list counts.
-pub static MEETING: [Row; 14] = [
+pub static MEETING: [Row; 23] = [
     (b"int x;int x[0];", "Redeclared in 0 at 10"),
     (
         b"int f(int a);int f(long long n,...);",
@@ -542,10 +553,19 @@ pub static MEETING: [Row; 14] = [
         b"int v(int n,...);int f(int *p){return v(2,p);}",
         "VariadicCount in 0 at 39",
     ),
+    (b"extern int x;extern void x;", "Redeclared in 0 at 25"),
+    (b"extern int x[2];extern int x[0];", "Redeclared in 0 at 27"),
+    (b"extern int x;extern struct T x;", "Unknown in 0 at 29"),
+    (b"int f(void);void *f(void);", "Redeclared in 0 at 18"),
+    (b"int a[2];int *p=a;", "NotValue in 0 at 16"),
+    (b"int a[2];int *p=&a;", "NotPlace in 0 at 16"),
+    (b"int x=exit;", "NotValue in 0 at 6"),
+    (b"typedef int (*F)(void);F p=&F;", "NotPlace in 0 at 27"),
+    (b"struct S{int a;};struct S s[2];int *p=&s[2].b;", "NoField in 0 at 43"),
 ];
 
 /// Parts from left to right, and then the node.
-pub static ORDER: [Row; 13] = [
+pub static ORDER: [Row; 21] = [
     (b"int f(int x){return y+x();}", "Unknown in 0 at 20"),
     (b"int f(int x){return x()+y;}", "NotFunction in 0 at 21"),
     (b"int f(int x){return x(y);}", "Unknown in 0 at 22"),
@@ -568,6 +588,14 @@ pub static ORDER: [Row; 13] = [
     (b"int x=1,*p=&y,x;", "Unknown in 0 at 11"),
     (b"struct S{int a;};struct S{void b;};", "BadType in 0 at 31"),
     (b"int x;int x(void a);", "BadType in 0 at 17"),
+    (b"int f(void){return 0;}int f(void){return y;}", "Redeclared in 0 at 26"),
+    (b"int a[1]={1,y};", "Unknown in 0 at 12"),
+    (b"int a={y};", "Unknown in 0 at 7"),
+    (b"int a[1]={1,{y}};", "Unknown in 0 at 13"),
+    (b"int h;int a[1]={1,h};", "BadInitial in 0 at 18"),
+    (b"int h;int a[1]={1,&h};", "BadInitial in 0 at 15"),
+    (b"int a[1]={\"x\",y};", "BadInitial in 0 at 10"),
+    (b"struct S{int a;};struct S s={1,s.b};", "NoField in 0 at 32"),
 ];
 
 /// Whole programs: what is missing counts after all units.
