@@ -38,11 +38,12 @@ path-next t front inside x xs ty y e =
     ∙ path-cons front inside y.inside y.step (part_by_steps t xs y.ty)
 
 -- one more step
-pub path_more : (t : Types) (steps : List Step) (i : ℕ) (x : Step) (front next : List PathStep) (inside : Bool) (ty : Ty) (y : FoundStep) →
-    i < length steps → x ≡ get_or steps i x → one_step t x ty ≡ Ok (step_of y) → next ≡ front ++ y.step ∷ [] →
-    path_behind next (inside && y.inside) (part_by_steps t (drop (i + 1) steps) y.ty) ≡ path_behind front inside (part_by_steps t (drop i steps) ty)
-path_more t steps i x front next inside ty y h e v n =
-    ap (λ ys. path_behind ys (inside && y.inside) (part_by_steps t (drop (i + 1) steps) y.ty)) n
+pub path_more : (t : Types) (steps : List Step) (i : ℕ) (x : Step) (front next : List PathStep) (inside within : Bool) (ty : Ty) (y : FoundStep) →
+    i < length steps → x ≡ get_or steps i x → one_step t x ty ≡ Ok (step_of y) → next ≡ front ++ y.step ∷ [] → within ≡ (inside && y.inside) →
+    path_behind next within (part_by_steps t (drop (i + 1) steps) y.ty) ≡ path_behind front inside (part_by_steps t (drop i steps) ty)
+path_more t steps i x front next inside within ty y h e v n w =
+    ap (λ b. path_behind next b (part_by_steps t (drop (i + 1) steps) y.ty)) w
+    ∙ ap (λ ys. path_behind ys (inside && y.inside) (part_by_steps t (drop (i + 1) steps) y.ty)) n
     ∙ sym (ap (λ ys. path_behind front inside (part_by_steps t ys ty)) (rest_is steps i x h e) ∙ path-next t front inside x (drop (i + 1) steps) ty y v)
 
 path-failed : (t : Types) (front : List PathStep) (inside : Bool) (x : Step) (xs : List Step) (ty : Ty) (f : Fault) →

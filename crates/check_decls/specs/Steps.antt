@@ -1,6 +1,5 @@
 -- Steps of the checker's own loops and look-ups, each a part of a rule.
 use Rattle.std.specs.Prelude.{◌≡◌, ℕ, ℤ, Bool, true, ◌&&◌, List, [], ◌∷◌, ◌++◌, Option, Some, None, Result, Ok, Err, slice_get, slice_set, bytes_eq, if◌then◌else◌}
-use Rattle.c_types.specs.declared.types.Ty.{Ty}
 use Rattle.c_types.specs.declared.types.FieldDef.{FieldDef}
 use Rattle.c_types.specs.declared.types.StructDef.{StructDef}
 use Rattle.c_typing.specs.declared.faults.Fault.{Fault}

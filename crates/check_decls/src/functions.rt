@@ -5,7 +5,9 @@ ghost use Rattle.c_typing.specs.UnitVisits.{with_scope};
 ghost use Rattle.c_typing.specs.Externals.{function_named, found_function, enter_program_function, typed_where, declare_function, has_body, no_function, no_new_function, no_typedef, visit_typedef, visit_declaration, begin_body, define_function, enclosing_in, body_of, with_body};
 
 use crate::heads::{check_variadic_type, enter_head, types_of_params};
-use crate::names::{check_untaken, declare_name, find_function, is_no_function, is_no_typedef, with_standing};
+use crate::names::{
+    check_untaken, declare_name, find_function, is_no_function, is_no_typedef, with_standing,
+};
 use c_program::{FunDef, FunctionBody, TypedItem};
 use c_tree::{FunctionHead, Name};
 use c_types::{FunTy, Ty};

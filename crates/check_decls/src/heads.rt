@@ -10,8 +10,8 @@ use c_tree::{Base, FunctionHead, Name, Param};
 use c_types::{FunTy, IntTy, Ty, Types, size};
 use c_typing::{LocalMeaning, LocalName, LocalScope, Refusal, Tables, TypeKind, UnitScope};
 use check_types::{
-    enter_fun_type, find_service, is_name_taken, is_same_type, object_type_of, refusal, result_type_of,
-    small_place,
+    enter_fun_type, find_service, is_name_taken, is_same_type, object_type_of, refusal,
+    result_type_of, small_place,
 };
 use hx_words::Items;
 use std::alloc::{AllocError, Global};

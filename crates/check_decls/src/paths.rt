@@ -88,7 +88,7 @@ pub fn part_by_path(
         let found = step_into(types, step, ty)?;
         path.push(found.step)?;
         ty = found.ty;
-        inside = inside && found.inside;
+        inside &= found.inside;
     }
     Ok(FoundPart { path, ty, inside })
 }

@@ -417,8 +417,14 @@ pub static CALLS: [Row; 48] = [
         "Variadic in 0 at 30",
     ),
     (b"struct B{char a[4];};struct B v(int n,...);", "ok"),
-    (b"int a[2];int f(void){return a();}", "NotFunction in 0 at 29"),
-    (b"void v(int n,...){va_list p;va_start(n,n);}", "Mismatch in 0 at 28"),
+    (
+        b"int a[2];int f(void){return a();}",
+        "NotFunction in 0 at 29",
+    ),
+    (
+        b"void v(int n,...){va_list p;va_start(n,n);}",
+        "Mismatch in 0 at 28",
+    ),
 ];
 
 /// Initial values, jumps and adjustors.
@@ -561,7 +567,10 @@ pub static MEETING: [Row; 23] = [
     (b"int a[2];int *p=&a;", "NotPlace in 0 at 16"),
     (b"int x=exit;", "NotValue in 0 at 6"),
     (b"typedef int (*F)(void);F p=&F;", "NotPlace in 0 at 27"),
-    (b"struct S{int a;};struct S s[2];int *p=&s[2].b;", "NoField in 0 at 43"),
+    (
+        b"struct S{int a;};struct S s[2];int *p=&s[2].b;",
+        "NoField in 0 at 43",
+    ),
 ];
 
 /// Parts from left to right, and then the node.
@@ -588,14 +597,20 @@ pub static ORDER: [Row; 21] = [
     (b"int x=1,*p=&y,x;", "Unknown in 0 at 11"),
     (b"struct S{int a;};struct S{void b;};", "BadType in 0 at 31"),
     (b"int x;int x(void a);", "BadType in 0 at 17"),
-    (b"int f(void){return 0;}int f(void){return y;}", "Redeclared in 0 at 26"),
+    (
+        b"int f(void){return 0;}int f(void){return y;}",
+        "Redeclared in 0 at 26",
+    ),
     (b"int a[1]={1,y};", "Unknown in 0 at 12"),
     (b"int a={y};", "Unknown in 0 at 7"),
     (b"int a[1]={1,{y}};", "Unknown in 0 at 13"),
     (b"int h;int a[1]={1,h};", "BadInitial in 0 at 18"),
     (b"int h;int a[1]={1,&h};", "BadInitial in 0 at 15"),
     (b"int a[1]={\"x\",y};", "BadInitial in 0 at 10"),
-    (b"struct S{int a;};struct S s={1,s.b};", "NoField in 0 at 32"),
+    (
+        b"struct S{int a;};struct S s={1,s.b};",
+        "NoField in 0 at 32",
+    ),
 ];
 
 /// Whole programs: what is missing counts after all units.
