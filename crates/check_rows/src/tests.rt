@@ -81,16 +81,50 @@ fn check_units(rt: &impl Abort, alloc: Global, rows: &[Row]) -> Result<(), Alloc
 }
 
 #[test]
-fn units(rt: HostRuntime) -> Result<(), Fail> {
-    let alloc = rt.alloc();
-    check_units(&rt, alloc, &NAMES)?;
-    check_units(&rt, alloc, &TYPES)?;
-    check_units(&rt, alloc, &PLACES)?;
-    check_units(&rt, alloc, &OPERANDS)?;
-    check_units(&rt, alloc, &CALLS)?;
-    check_units(&rt, alloc, &REST)?;
-    check_units(&rt, alloc, &MEETING)?;
-    check_units(&rt, alloc, &ORDER)?;
+fn names(rt: HostRuntime) -> Result<(), Fail> {
+    check_units(&rt, rt.alloc(), &NAMES)?;
+    Ok(())
+}
+
+#[test]
+fn types(rt: HostRuntime) -> Result<(), Fail> {
+    check_units(&rt, rt.alloc(), &TYPES)?;
+    Ok(())
+}
+
+#[test]
+fn places(rt: HostRuntime) -> Result<(), Fail> {
+    check_units(&rt, rt.alloc(), &PLACES)?;
+    Ok(())
+}
+
+#[test]
+fn operands(rt: HostRuntime) -> Result<(), Fail> {
+    check_units(&rt, rt.alloc(), &OPERANDS)?;
+    Ok(())
+}
+
+#[test]
+fn calls(rt: HostRuntime) -> Result<(), Fail> {
+    check_units(&rt, rt.alloc(), &CALLS)?;
+    Ok(())
+}
+
+#[test]
+fn initials_jumps_and_adjustors(rt: HostRuntime) -> Result<(), Fail> {
+    check_units(&rt, rt.alloc(), &REST)?;
+    Ok(())
+}
+
+#[test]
+fn kinds_that_meet(rt: HostRuntime) -> Result<(), Fail> {
+    check_units(&rt, rt.alloc(), &MEETING)?;
+    Ok(())
+}
+
+#[test]
+fn order_of_visit(rt: HostRuntime) -> Result<(), Fail> {
+    check_units(&rt, rt.alloc(), &ORDER)?;
     Ok(())
 }
 
