@@ -1,8 +1,8 @@
 -- Declarations and definitions of globals, functions, adjustors and typedefs (C11, 6.7, 6.9). A name of
 -- the first three sorts means the same in the whole program (6.2.2p2), and each unit declares what it
--- uses; a typedef belongs to its unit. A fault lies at the declared name. A name that can't be declared
--- comes first, then the faults of its type, then that it stands already with another type.
-use Rattle.std.specs.Prelude.{ℕ, ◌+◌, Bool, false, ◌||◌, ◌==◌, List, [], ◌∷◌, ◌++◌, length, Option, Some, None, is_some, Result, Ok, Err, slice_get, slice_set, position, bytes_eq, if◌then◌else◌}
+-- uses; a typedef belongs to its unit. A fault lies at the declared name. That a name can't be declared,
+-- or stands already with another type, comes before the faults of its type.
+use Rattle.std.specs.Prelude.{ℕ, ◌+◌, Bool, true, false, ◌||◌, ◌==◌, List, [], ◌∷◌, ◌++◌, length, Option, Some, None, is_some, Result, Ok, Err, slice_get, slice_set, position, bytes_eq, if◌then◌else◌}
 use Rattle.c_types.specs.declared.types.Ty.{Ty}
 use Rattle.c_types.specs.declared.types.Ty.TheVariants.{Void}
 use Rattle.c_types.specs.declared.types.FunTy.{FunTy}
@@ -20,6 +20,7 @@ use Rattle.c_program.specs.declared.program.FunctionBody.{FunctionBody}
 use Rattle.c_program.specs.declared.program.FunDef.{FunDef}
 use Rattle.c_program.specs.declared.program.AdjustDef.{AdjustDef}
 use Rattle.c_typing.specs.declared.faults.Fault.{Fault}
+use Rattle.c_typing.specs.declared.faults.TypeKind.{TypeKind}
 use Rattle.c_typing.specs.declared.faults.TypeKind.TheVariants as kind
 use Rattle.c_typing.specs.declared.scopes.Meaning.{Meaning}
 use Rattle.c_typing.specs.declared.scopes.Meaning.TheVariants.{Typedef, Function, Global}
@@ -60,6 +61,19 @@ no_adjustor p name = is_reserved p.scope name || is_some (global_named p.globals
 unfoldable pub no_typedef : Progress → List ℕ → Bool
 no_typedef p name = is_some (service_named name) || is_some (meaning_in p.scope.names name)
 
+-- a name that stands already has a type that there is; a type that isn't known isn't told from it
+abbrev pub standing : Bool → TypeKind → TypeKind
+standing true kind.BadType = kind.Redeclared
+standing stands k = k
+
+abbrev pub typed_standing : {A : Type 0} → Bool → Result A Fault → Result A Fault
+typed_standing stands (Ok x) = Ok x
+typed_standing stands (Err e) = Err (fault (standing stands e.kind) e.at)
+
+-- the type of a name that may stand already
+unfoldable pub typed_where : {A : Type 0} → (Progress → Bool) → Visit Progress A → Visit Progress A
+typed_where stands v p = typed_standing (stands p) (v p)
+
 unfoldable pub unless_taken : (Progress → List ℕ → Bool) → Name → Visit Progress (Unit {0})
 unless_taken taken n p = if taken p n.text then Err (fault kind.Redeclared n.span.start) else Ok (tt, p)
 
@@ -88,7 +102,7 @@ enter_global n ty p = let g = global_named p.globals n.text in entered_global n 
 unfoldable pub declare_global : (Progress → List ℕ → Bool) → Base → Decl → Visit Progress (ℕ × Ty)
 declare_global taken b d =
     unless_taken taken d.name >>= (λ u.
-    with_scope (λ unit. declared_type unit b d) >>= (λ ty.
+    typed_where (λ p. is_some (global_named p.globals d.name.text)) (with_scope (λ unit. declared_type unit b d)) >>= (λ ty.
     enter_global d.name ty >>= (λ g.
     declare d.name.text (Global g ty) >>= (λ w.
     give (g, ty)))))
@@ -151,7 +165,7 @@ enter_program_function n k p = let f = function_named p.functions n.text in ente
 unfoldable pub declare_function : (Progress → List ℕ → Bool) → FunctionHead → List Ty → Visit Progress (ℕ × ℕ)
 declare_function taken h params =
     unless_taken taken h.name >>= (λ u.
-    with_scope (λ unit. head_type unit h params) >>= (λ k.
+    typed_where (λ p. is_some (function_named p.functions h.name.text)) (with_scope (λ unit. head_type unit h params)) >>= (λ k.
     enter_program_function h.name k >>= (λ f.
     with_scope (λ unit. check_variadic h.name.span.start k) >>= (λ w.
     declare h.name.text (Function f k) >>= (λ v.

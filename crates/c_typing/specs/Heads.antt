@@ -16,8 +16,8 @@ use Rattle.c_typing.specs.declared.scopes.UnitScope.{UnitScope}
 use Rattle.c_typing.specs.declared.scopes.LocalMeaning.TheVariants as meaning
 use Rattle.c_typing.specs.declared.scopes.LocalScope.{LocalScope}
 use Rattle.c_typing.specs.declared.tables.Tables.{Tables}
-use Rattle.c_typing.specs.Visits.{Visit, fault, ◌>>=◌, give, each_in_order}
-use Rattle.c_typing.specs.Scopes.{no_locals, with_local}
+use Rattle.c_typing.specs.Visits.{Visit, fault, ◌>>=◌, give, refuse, each_in_order}
+use Rattle.c_typing.specs.Scopes.{no_locals, with_local, service_named}
 use Rattle.c_typing.specs.TypeForms.{same_type, is_struct, enter_function, result_type, object_type}
 use Rattle.c_typing.specs.Statements.{Scoped, ScopeVisit, in_scopes, enter_local, free_name}
 
@@ -39,9 +39,16 @@ param_at p = name_or_base p.base p.name
 abbrev pub param_type : UnitScope → Param → Visit Tables Ty
 param_type unit p = object_type unit (param_at p) p.base p.stars
 
--- without a body the names of parameters mean nothing
+abbrev pub is_service : Option Name → Bool
+is_service None = false
+is_service (Some n) = is_some (service_named n.text)
+
+-- without a body the name of a parameter is in no scope, but it isn't a service's
+abbrev pub bare_param_type : UnitScope → Param → Visit Tables Ty
+bare_param_type unit p = if is_service p.name then refuse kind.Redeclared (param_at p) else param_type unit p
+
 unfoldable pub param_types : UnitScope → List Param → Visit Tables (List Ty)
-param_types unit ps = each_in_order (map (param_type unit) ps)
+param_types unit ps = each_in_order (map (bare_param_type unit) ps)
 
 abbrev pub free_param : UnitScope → LocalScope → Option Name → Visit Tables (Unit {0})
 free_param unit locals None = give tt

@@ -1,5 +1,5 @@
 -- An adjustor whose name is free, whose target is found and whose change fits.
-use Rattle.std.proofs.Common.{◌≡◌, ℕ, ◌-◌, Bool, true, false, Result, Ok, Err, Option, refl, sym, ap, ◌∙◌, subst}
+use Rattle.std.proofs.Common.{◌≡◌, ℕ, ◌-◌, Bool, true, false, Ok, Option, refl, sym, ap, ◌∙◌}
 use Rattle.std.specs.Prelude.{ℤ}
 use Rattle.c_types.specs.declared.types.Span.{Span}
 use Rattle.c_tree.specs.declared.expressions.Name.{Name}

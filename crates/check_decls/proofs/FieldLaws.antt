@@ -1,5 +1,5 @@
 -- Lists of fields and tags, one element at a time.
-use Rattle.std.proofs.Common.{◌≡◌, ◌≢◌, ℕ, ◌+◌, ◌<◌, suc, Bool, true, false, ◌&&◌, bytes_eq, List, [], ◌∷◌, ◌++◌, map, take, drop, length, Option, Some, None, slice_get, slice_set, if◌then◌else◌, ◌≤◌, zero, refl, sym, add-one, arith, ap, ◌∙◌}
+use Rattle.std.proofs.Common.{◌≡◌, ◌≢◌, ℕ, ◌+◌, ◌<◌, suc, true, false, ◌&&◌, bytes_eq, List, [], ◌∷◌, ◌++◌, take, drop, length, Some, None, slice_get, slice_set, if◌then◌else◌, ◌≤◌, zero, refl, sym, add-one, arith, ap, ◌∙◌}
 use Rattle.std.proofs.Math.Bool.{and-false}
 use Rattle.c_types.specs.declared.types.FieldDef.{FieldDef}
 use Rattle.c_typing.specs.declared.scopes.UnitTag.{UnitTag}

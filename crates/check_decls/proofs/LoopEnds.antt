@@ -1,5 +1,5 @@
 -- Ends and steps of loops over parts in order.
-use Rattle.std.proofs.Common.{◌≡◌, ℕ, ◌+◌, ◌<◌, ◌≤◌, List, [], ◌∷◌, ◌++◌, map, drop, length, get_or, Result, Ok, Err, sym, ap, ◌∙◌}
+use Rattle.std.proofs.Common.{◌≡◌, ℕ, ◌+◌, ◌<◌, List, [], ◌∷◌, ◌++◌, map, drop, length, get_or, Result, Ok, Err}
 use Rattle.c_typing.specs.declared.faults.Fault.{Fault}
 use Rattle.c_typing.specs.declared.faults.Refusal.{Refusal}
 use Rattle.c_typing.specs.declared.faults.Refusal.TheVariants as refusal

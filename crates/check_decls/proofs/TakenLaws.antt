@@ -11,8 +11,11 @@ use Rattle.c_tree.specs.declared.declarations.Decl.{Decl}
 use Rattle.c_tree.specs.declared.declarations.FunctionHead.{FunctionHead}
 use Rattle.c_types.specs.declared.types.Ty.{Ty}
 use Rattle.c_typing.specs.declared.tables.Progress.{Progress}
-use Rattle.c_typing.specs.Visits.{followed, fault}
-use Rattle.c_typing.specs.Externals.{unless_taken, declare_global, declare_function, global_named, found_global, entered_global, enter_global, function_named, found_function, entered_function, enter_program_function}
+use Rattle.c_typing.specs.declared.faults.Refusal.{Refusal}
+use Rattle.c_typing.specs.declared.faults.Refusal.TheVariants as refusal
+use Rattle.c_typing.specs.Visits.{Visit, Leaves, followed, fault}
+use Rattle.check_decls.specs.Steps.{refused_standing}
+use Rattle.c_typing.specs.Externals.{typed_standing, typed_where, unless_taken, declare_global, declare_function, global_named, found_global, entered_global, enter_global, function_named, found_function, entered_function, enter_program_function}
 
 global-tested : (taken : Progress → List ℕ → Bool) (b : Base) (d : Decl) (p : Progress) → declare_global (λ q n. taken p d.name.text) b d p ≡ declare_global taken b d p
 unfolding declare_global unless_taken followed
@@ -42,3 +45,16 @@ function_differs n k p f d e h s =
     let other : (d.ty == k) ≡ false = grind (arith, nat_tests) in
     ap (λ o. entered_function n k o (found_function p o) p) e ∙ ap (λ o. entered_function n k (Some f) o p) h
     ∙ ap (λ b. if b then Ok (f, p) else Err (fault Redeclared n.span.start)) other
+
+-- the type of a name that may stand
+
+where-refused : {A : Type 0} (stands : Progress → Bool) (v : Visit Progress A) (p p' : Progress) (r : Refusal) →
+    Leaves (v p) (Err r) p' → Leaves (typed_where stands v p) (Err (refused_standing (stands p) r)) p'
+unfolding typed_where
+where-refused stands v p p' (refusal.Fault f) h = ap (typed_standing (stands p)) h
+where-refused stands v p p' refusal.NoMemory h = tt
+
+pub where_refused : {A : Type 0} (stands : Progress → Bool) (v : Visit Progress A) (p p' : Progress) (b : Bool) (r r' : Refusal) →
+    b ≡ stands p → Leaves (v p) (Err r) p' → r' ≡ refused_standing b r → Leaves (typed_where stands v p) (Err r') p'
+where_refused {A = A} stands v p p' b r r' e h n =
+    subst (λ (x : Refusal). Leaves {A = A} (typed_where stands v p) (Err x) p') (sym (n ∙ ap (λ x. refused_standing x r) e)) (where-refused stands v p p' r h)

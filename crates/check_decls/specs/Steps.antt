@@ -1,6 +1,5 @@
 -- Steps of the checker's own loops and look-ups, each a part of a rule.
-use Rattle.std.specs.Prelude.{◌≡◌, ℕ, ℤ, Bool, true, List, [], ◌∷◌, ◌++◌, Option, Some, None, Result, Ok, Err, slice_get, slice_set, bytes_eq, if◌then◌else◌}
-use Rattle.c_types.specs.declared.types.Ty.{Ty}
+use Rattle.std.specs.Prelude.{◌≡◌, ℕ, ℤ, Bool, true, ◌&&◌, List, [], ◌∷◌, ◌++◌, Option, Some, None, Result, Ok, Err, slice_get, slice_set, bytes_eq, if◌then◌else◌}
 use Rattle.c_types.specs.declared.types.FieldDef.{FieldDef}
 use Rattle.c_types.specs.declared.types.StructDef.{StructDef}
 use Rattle.c_typing.specs.declared.faults.Fault.{Fault}
@@ -9,7 +8,7 @@ use Rattle.c_tree.specs.declared.expressions.Name.{Name}
 use Rattle.c_typing.specs.declared.scopes.Meaning.TheVariants.{Adjustor}
 use Rattle.c_typing.specs.declared.tables.Progress.{Progress}
 use Rattle.c_program.specs.declared.expressions.Target.{Target}
-use Rattle.c_typing.specs.Externals.{declare}
+use Rattle.c_typing.specs.Externals.{declare, standing}
 use Rattle.c_typing.specs.Visits.{Visit, fault, ◌>>=◌}
 use Rattle.c_typing.specs.declared.faults.Refusal.{Refusal}
 use Rattle.c_typing.specs.declared.faults.Refusal.TheVariants as refusal
@@ -20,6 +19,8 @@ use Rattle.c_typing.specs.Statements.{Scoped}
 use Rattle.c_program.specs.declared.program.PathStep.{PathStep}
 use Rattle.c_program.specs.declared.program.Constant.{Constant}
 use Rattle.c_typing.specs.Initials.{Part}
+use Rattle.check_decls.specs.declared.paths.FoundPart.{FoundPart}
+use Rattle.check_decls.specs.declared.paths.FoundStep.{FoundStep}
 use Rattle.c_types.specs.declared.types.Span.{Span}
 use Rattle.c_typing.specs.Adjustors.{is_amount, amount_of, define_adjustor}
 use Rattle.c_typing.specs.Structs.{same_fields}
@@ -58,30 +59,38 @@ LeavesOne rule (Err refusal.NoMemory) locals t = Unit {0}
 abbrev pub unless : Bool → Name → Result (Unit {0}) Fault
 unless taken n = if taken then Err (fault kind.Redeclared n.span.start) else Ok tt
 
--- What a call says of the steps to a part, with the part's type
-abbrev pub TellsPart : Result Part Fault → Result (List PathStep × Ty) Refusal → Type 0
-TellsPart rule (Ok x) = rule ≡ Ok (record { ty = x.1; steps = x.0 })
+abbrev pub part_of : FoundPart → Part
+part_of f = record { ty = f.ty; steps = f.path; inside = f.inside }
+
+abbrev pub step_of : FoundStep → Part
+step_of f = record { ty = f.ty; steps = f.step ∷ []; inside = f.inside }
+
+-- the refusal of a type, of a name that may stand already
+abbrev pub refused_standing : Bool → Refusal → Refusal
+refused_standing stands (refusal.Fault f) = refusal.Fault (fault (standing stands f.kind) f.at)
+refused_standing stands refusal.NoMemory = refusal.NoMemory
+
+-- What a call says of the steps to a part
+abbrev pub TellsPart : Result Part Fault → Result FoundPart Refusal → Type 0
+TellsPart rule (Ok x) = rule ≡ Ok (part_of x)
 TellsPart rule (Err (refusal.Fault f)) = rule ≡ Err f
 TellsPart rule (Err refusal.NoMemory) = Unit {0}
 
 -- and of one step
-abbrev pub TellsStep : Result Part Fault → Result (PathStep × Ty) Refusal → Type 0
-TellsStep rule (Ok x) = rule ≡ Ok (record { ty = x.1; steps = x.0 ∷ [] })
+abbrev pub TellsStep : Result Part Fault → Result FoundStep Refusal → Type 0
+TellsStep rule (Ok x) = rule ≡ Ok (step_of x)
 TellsStep rule (Err (refusal.Fault f)) = rule ≡ Err f
 TellsStep rule (Err refusal.NoMemory) = Unit {0}
 
 -- a part by the steps behind others
-abbrev pub path_behind : List PathStep → Result Part Fault → Result Part Fault
-path_behind front (Ok p) = Ok (record { ty = p.ty; steps = front ++ p.steps })
-path_behind front (Err e) = Err e
+abbrev pub path_behind : List PathStep → Bool → Result Part Fault → Result Part Fault
+path_behind front inside (Ok p) = Ok (record { ty = p.ty; steps = front ++ p.steps; inside = inside && p.inside })
+path_behind front inside (Err e) = Err e
 
 -- constants behind others
 abbrev pub list_behind : List Constant → Result (List Constant) Fault → Result (List Constant) Fault
 list_behind front (Ok cs) = Ok (front ++ cs)
 list_behind front (Err e) = Err e
-
-abbrev pub part_of : List PathStep → Ty → Part
-part_of path ty = record { ty = ty; steps = path }
 
 -- the number that an adjustor adds, where it may be one
 abbrev pub amount_in : Option Span → ℕ → Option ℤ

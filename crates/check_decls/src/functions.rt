@@ -1,11 +1,13 @@
-ghost use Rattle.std.specs.Prelude.{◌≡◌, [], ◌∷◌, ◌++◌, ◌+◌, IfOk, OnOk, length, slice_get};
+ghost use Rattle.std.specs.Prelude.{◌≡◌, [], ◌∷◌, ◌++◌, ◌+◌, IfOk, OnOk, length, slice_get, is_some};
 ghost use Rattle.c_typing.specs.Visits.{Leaves, Tells};
 ghost use Rattle.c_typing.specs.Heads.{param_types, head_type, check_variadic};
 ghost use Rattle.c_typing.specs.UnitVisits.{with_scope};
-ghost use Rattle.c_typing.specs.Externals.{function_named, found_function, enter_program_function, declare_function, has_body, no_function, no_new_function, no_typedef, visit_typedef, visit_declaration, begin_body, define_function, enclosing_in, body_of, with_body};
+ghost use Rattle.c_typing.specs.Externals.{function_named, found_function, enter_program_function, typed_where, declare_function, has_body, no_function, no_new_function, no_typedef, visit_typedef, visit_declaration, begin_body, define_function, enclosing_in, body_of, with_body};
 
 use crate::heads::{check_variadic_type, enter_head, types_of_params};
-use crate::names::{check_untaken, declare_name, find_function, is_no_function, is_no_typedef};
+use crate::names::{
+    check_untaken, declare_name, find_function, is_no_function, is_no_typedef, with_standing,
+};
 use c_program::{FunDef, FunctionBody, TypedItem};
 use c_tree::{FunctionHead, Name};
 use c_types::{FunTy, Ty};
@@ -33,6 +35,22 @@ fn scoped_head(head: &FunctionHead, params: Items<Ty>, state: &mut Progress) -> 
 {
     let place = enter_head(&state.scope, head, params, &mut state.tables)?;
     Ok(place)
+}
+
+/// The type of a function, which may stand already.
+#[tactic(auto, unfolding(c_typing::specs::Externals::typed_where))]
+fn type_of_function(
+    head: &FunctionHead,
+    params: Items<Ty>,
+    state: &mut Progress,
+) -> Result<u32, Refusal>
+    ensures { Leaves (typed_where (λ p. is_some (function_named p.functions head.now.name.text)) (with_scope (λ unit. head_type unit head.now params)) state.old) result state.new }
+{
+    let stands = find_function(state.functions.as_slice(), head.name.text.as_slice()).is_some();
+    match scoped_head(head, params, state) {
+        Ok(place) => Ok(place),
+        Err(r) => Err(with_standing(stands, r)),
+    }
 }
 
 #[tactic(auto, unfolding(c_typing::specs::UnitVisits::with_scope))]
@@ -113,7 +131,7 @@ fn declare(
     ensures { Leaves (declare_function (λ p name. taken) head.now params state.old) result state.new }
 {
     check_untaken(taken, &head.name)?;
-    let ty = scoped_head(head, params, state)?;
+    let ty = type_of_function(head, params, state)?;
     let place = enter(alloc, &head.name, ty, state)?;
     check_head(head.name.span.start, ty, state)?;
     let name = head.name.text.as_slice();

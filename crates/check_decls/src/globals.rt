@@ -1,11 +1,11 @@
-ghost use Rattle.std.specs.Prelude.{◌≡◌, [], ◌∷◌, ◌++◌, OnOk, length};
+ghost use Rattle.std.specs.Prelude.{◌≡◌, [], ◌∷◌, ◌++◌, OnOk, length, is_some};
 ghost use Rattle.c_typing.specs.Visits.{Leaves, Tells};
 ghost use Rattle.c_typing.specs.TypeForms.{declared_type};
 ghost use Rattle.c_typing.specs.UnitVisits.{with_scope};
-ghost use Rattle.c_typing.specs.Externals.{global_named, found_global, enter_global, declare_global, has_global_body, no_new_global, define_global, visit_global, visit_globals, visit_extern};
+ghost use Rattle.c_typing.specs.Externals.{global_named, found_global, enter_global, typed_where, declare_global, has_global_body, no_new_global, define_global, visit_global, visit_globals, visit_extern};
 
 use crate::initials::optional_constant;
-use crate::names::{check_untaken, declare_name, find_global, is_no_global};
+use crate::names::{check_untaken, declare_name, find_global, is_no_global, with_standing};
 use c_program::{Constant, GlobalBody, GlobalDef};
 use c_tree::{Base, Decl, GlobalDecl, Name};
 use c_types::Ty;
@@ -57,6 +57,18 @@ fn scoped_type(base: &Base, decl: &Decl, state: &mut Progress) -> Result<Ty, Ref
     Ok(ty)
 }
 
+/// The type of a global, which may stand already.
+#[tactic(auto, unfolding(c_typing::specs::Externals::typed_where))]
+fn type_of_global(base: &Base, decl: &Decl, state: &mut Progress) -> Result<Ty, Refusal>
+    ensures { Leaves (typed_where (λ p. is_some (global_named p.globals decl.now.name.text)) (with_scope (λ unit. declared_type unit base.now decl.now)) state.old) result state.new }
+{
+    let stands = find_global(state.globals.as_slice(), decl.name.text.as_slice()).is_some();
+    match scoped_type(base, decl, state) {
+        Ok(ty) => Ok(ty),
+        Err(r) => Err(with_standing(stands, r)),
+    }
+}
+
 /// A global's declarator (C11, 6.2.2p4): its place and its type.
 #[tactic(auto, unfolding(c_typing::specs::Externals::declare_global, c_typing::specs::Externals::unless_taken, c_typing::specs::Visits::followed, c_typing::specs::Visits::give))]
 fn declare(
@@ -69,7 +81,7 @@ fn declare(
     ensures { Leaves (declare_global (λ p name. taken) base.now decl.now state.old) result state.new }
 {
     check_untaken(taken, &decl.name)?;
-    let ty = scoped_type(base, decl, state)?;
+    let ty = type_of_global(base, decl, state)?;
     let place = enter(alloc, &decl.name, ty, state)?;
     let meaning = Meaning::Global(place, ty);
     declare_name(alloc, decl.name.text.as_slice(), meaning, state)?;

@@ -3,15 +3,15 @@ ghost use Rattle.c_types.specs.Layout.{size_of};
 ghost use Rattle.c_typing.specs.Visits.{Leaves, each_in_order};
 ghost use Rattle.c_typing.specs.Scopes.{with_local};
 ghost use Rattle.c_typing.specs.Statements.{enter_local, free_name, in_scopes};
-ghost use Rattle.c_typing.specs.Heads.{base_at, param_at, param_type, param_types, free_param, with_param, visit_parameter, visit_parameters, head_type, is_int, is_register_size, gives_word, may_be_variadic, variadic_fits, check_variadic};
+ghost use Rattle.c_typing.specs.Heads.{base_at, param_at, param_type, is_service, bare_param_type, param_types, free_param, with_param, visit_parameter, visit_parameters, head_type, is_int, is_register_size, gives_word, may_be_variadic, variadic_fits, check_variadic};
 ghost use Rattle.check_decls.specs.Steps.{LeavesOne, LeavesAll};
 
 use c_tree::{Base, FunctionHead, Name, Param};
 use c_types::{FunTy, IntTy, Ty, Types, size};
 use c_typing::{LocalMeaning, LocalName, LocalScope, Refusal, Tables, TypeKind, UnitScope};
 use check_types::{
-    enter_fun_type, is_name_taken, is_same_type, object_type_of, refusal, result_type_of,
-    small_place,
+    enter_fun_type, find_service, is_name_taken, is_same_type, object_type_of, refusal,
+    result_type_of, small_place,
 };
 use hx_words::Items;
 use std::alloc::{AllocError, Global};
@@ -42,7 +42,27 @@ fn type_of_param(unit: &UnitScope, p: &Param, tables: &mut Tables) -> Result<Ty,
     Ok(ty)
 }
 
-/// The types of the parameters of a head without a body, whose names mean nothing.
+fn is_service_name(name: &Option<Name>) -> bool
+    ensures { result ≡ is_service name.now }
+{
+    match name {
+        Some(n) => find_service(n.text.as_slice()).is_some(),
+        None => false,
+    }
+}
+
+#[tactic(auto, unfolding(c_typing::specs::Visits::refuse))]
+fn type_of_bare_param(unit: &UnitScope, p: &Param, tables: &mut Tables) -> Result<Ty, Refusal>
+    ensures { Leaves (bare_param_type unit.now p.now tables.old) result tables.new }
+{
+    if is_service_name(&p.name) {
+        return Err(refusal(TypeKind::Redeclared, param_start(p)));
+    }
+    let ty = type_of_param(unit, p, tables)?;
+    Ok(ty)
+}
+
+/// The types of the parameters of a head without a body, whose names are in no scope.
 #[tactic(auto, unfolding(c_typing::specs::Heads::param_types), using(c_typing::proofs::LoopLaws::each_begun, c_typing::proofs::LoopLaws::each_kept, c_typing::proofs::LoopLaws::each_left, c_typing::proofs::LoopLaws::each_whole))]
 pub fn types_of_params(
     alloc: Global,
@@ -54,7 +74,7 @@ pub fn types_of_params(
 {
     let mut types = Items::new(alloc);
     for p in params {
-        types.push(type_of_param(unit, p, tables)?)?;
+        types.push(type_of_bare_param(unit, p, tables)?)?;
     }
     Ok(types)
 }

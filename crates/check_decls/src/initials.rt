@@ -2,16 +2,18 @@ ghost use Rattle.std.specs.Prelude.{◌≡◌, IfOk, map};
 ghost use Rattle.c_typing.specs.Visits.{Tells, fault};
 ghost use Rattle.c_typing.specs.declared.faults.TypeKind.TheVariants.{BadInitial};
 ghost use Rattle.c_typing.specs.TypeForms.{fields_at};
-ghost use Rattle.c_typing.specs.Initials.{chars, text_in, text_at, function_at, address_at, name_means, name_at, for_fields, for_elements, list_at, start_or, visit_init, visit_optional_init};
+ghost use Rattle.c_typing.specs.Initials.{for_type, number_at, char_at, chars, text_in, text_at, valueless, function_at, address_at, part_at, name_means, name_at, part_in, part_type, has_parts, for_parts, braced, list_at, start_or, visit_init, visit_optional_init};
 ghost use Rattle.check_decls.specs.Steps.{part_of};
 
 use crate::numbers::{char_constant, number_constant, number_of};
-use crate::paths::{check_no_part, path_of};
-use c_program::{Constant, PathStep, Target};
-use c_tree::{Init, Name, Step};
+use crate::paths::{FoundPart, check_no_part, part_by_path};
+use c_program::{Constant, Target};
+use c_tree::{Init, Literal, Name, Step};
 use c_types::{FieldDef, IntTy, Span, Ty, Types};
 use c_typing::{Meaning, Refusal, TypeKind, UnitScope};
-use check_types::{bytes, find_meaning, find_service, is_same_type, refusal, type_at};
+use check_types::{
+    bytes, find_meaning, find_service, is_array_type, is_same_type, refusal, type_at,
+};
 use hx_words::{Boxed, Items};
 use std::alloc::{AllocError, Global};
 
@@ -75,6 +77,44 @@ fn text_constant(
     }
 }
 
+fn text_constant_for(
+    alloc: Global,
+    at: u32,
+    types: &Types,
+    text: &[u8],
+    ty: Option<Ty>,
+) -> Result<Constant, Refusal>
+    ensures { Tells (for_type (text_at at types.now text.now) ty) result }
+{
+    match ty {
+        Some(ty) => Ok(text_constant(alloc, at, types, text, ty)?),
+        None => Ok(Constant::Zero),
+    }
+}
+
+fn number_constant_for(
+    at: u32,
+    minus: Option<Span>,
+    n: Literal,
+    ty: Option<Ty>,
+) -> Result<Constant, Refusal>
+    ensures { Tells (for_type (number_at at minus n) ty) result }
+{
+    match ty {
+        Some(ty) => Ok(number_constant(at, minus, n, ty)?),
+        None => Ok(Constant::Zero),
+    }
+}
+
+fn char_constant_for(at: u32, c: i32, ty: Option<Ty>) -> Result<Constant, Refusal>
+    ensures { Tells (for_type (char_at at c) ty) result }
+{
+    match ty {
+        Some(ty) => Ok(char_constant(at, c, ty)?),
+        None => Ok(Constant::Zero),
+    }
+}
+
 fn function_constant(at: u32, fun: u32, target: Target, ty: Ty) -> Result<Constant, Refusal>
     ensures { Tells (function_at at fun target ty) result }
 {
@@ -85,23 +125,69 @@ fn function_constant(at: u32, fun: u32, target: Target, ty: Ty) -> Result<Consta
     }
 }
 
-/// The address of a part of a global, after `&`.
+/// What has no value, and no address after `&`.
+fn valueless_constant(at: u32, and: Option<Span>) -> Result<Constant, Refusal>
+    ensures { Tells (valueless at and) result }
+{
+    match and {
+        Some(_) => Err(refusal(TypeKind::NotPlace, at)),
+        None => Err(refusal(TypeKind::NotValue, at)),
+    }
+}
+
+/// The name of a function, for a type if there is one.
+fn function_constant_for(
+    at: u32,
+    fun: u32,
+    target: Target,
+    ty: Option<Ty>,
+) -> Result<Constant, Refusal>
+    ensures { Tells (for_type (function_at at fun target) ty) result }
+{
+    match ty {
+        Some(ty) => Ok(function_constant(at, fun, target, ty)?),
+        None => Ok(Constant::Zero),
+    }
+}
+
+/// The address of a part of a global.
 fn address_constant(
+    at: u32,
+    global: u32,
+    types: &Types,
+    part: FoundPart,
+    ty: Ty,
+) -> Result<Constant, Refusal>
+    ensures { Tells (address_at at global types.now (part_of part) ty) result }
+{
+    match ty {
+        Ty::Ptr(place) if is_same_type(type_at(types, place), part.ty) => {
+            Ok(Constant::Address(global, part.path))
+        }
+        _ => bad_initial(at),
+    }
+}
+
+/// A part of a global, whose address may be a constant.
+fn part_constant(
     at: u32,
     and: Option<Span>,
     global: u32,
     types: &Types,
-    path: Items<PathStep>,
-    part: Ty,
-    ty: Ty,
+    part: FoundPart,
+    ty: Option<Ty>,
 ) -> Result<Constant, Refusal>
-    ensures { Tells (address_at at and global types.now (part_of path part) ty) result }
+    ensures { Tells (part_at at and global types.now (part_of part) ty) result }
 {
+    if is_array_type(part.ty) {
+        return Ok(valueless_constant(at, and)?);
+    }
+    if and.is_none() || !part.inside {
+        return bad_initial(at);
+    }
     match ty {
-        Ty::Ptr(place) if and.is_some() && is_same_type(type_at(types, place), part) => {
-            Ok(Constant::Address(global, path))
-        }
-        _ => bad_initial(at),
+        Some(ty) => Ok(address_constant(at, global, types, part, ty)?),
+        None => Ok(Constant::Zero),
     }
 }
 
@@ -112,27 +198,26 @@ fn means_constant(
     and: Option<Span>,
     steps: &[Step],
     meaning: Option<Meaning>,
-    ty: Ty,
+    ty: Option<Ty>,
 ) -> Result<Constant, Refusal>
     ensures { Tells (name_means at types.now and steps.now meaning ty) result }
 {
     match meaning {
-        None => bad_initial(at),
-        Some(Meaning::Typedef(_)) => {
+        None | Some(Meaning::Typedef(_)) => {
             check_no_part(steps)?;
-            bad_initial(at)
+            Ok(valueless_constant(at, and)?)
         }
         Some(Meaning::Function(f, fun)) => {
             check_no_part(steps)?;
-            Ok(function_constant(at, fun, Target::Function(f), ty)?)
+            Ok(function_constant_for(at, fun, Target::Function(f), ty)?)
         }
         Some(Meaning::Adjustor(a, fun)) => {
             check_no_part(steps)?;
-            Ok(function_constant(at, fun, Target::Adjustor(a), ty)?)
+            Ok(function_constant_for(at, fun, Target::Adjustor(a), ty)?)
         }
         Some(Meaning::Global(g, whole)) => {
-            let (path, part) = path_of(alloc, at, types, steps, whole)?;
-            Ok(address_constant(at, and, g, types, path, part, ty)?)
+            let part = part_by_path(alloc, types, steps, whole)?;
+            Ok(part_constant(at, and, g, types, part, ty)?)
         }
     }
 }
@@ -145,7 +230,7 @@ fn name_constant(
     and: Option<Span>,
     name: &Name,
     steps: &[Step],
-    ty: Ty,
+    ty: Option<Ty>,
 ) -> Result<Constant, Refusal>
     ensures { Tells (name_at (start_or and name.now.span.start) unit.now types.now and name.now steps.now ty) result }
 {
@@ -166,47 +251,72 @@ fn start_of(sign: Option<Span>, at: u32) -> u32
     }
 }
 
-/// Values in braces for the fields of a struct, the first for the first.
-#[cycle(inits)]
-fn field_constants(
-    alloc: Global,
-    at: u32,
-    unit: &UnitScope,
-    types: &Types,
-    fields: &[FieldDef],
-    inits: &[Init],
-) -> Result<Items<Constant>, Refusal>
-    ensures { Tells (for_fields at fields.now (map (visit_init unit.now types.now) inits.now)) result }
+/// The type of the part of this number of a type: a field, or an element.
+fn part_in_type(types: &Types, number: u64, ty: Ty) -> Option<Ty>
+    ensures { result ≡ part_in types.now number ty }
 {
-    let mut constants = Items::new(alloc);
-    for (k, init) in inits.iter().enumerate() {
-        if k >= fields.len() {
-            return Err(refusal(TypeKind::BadInitial, at));
-        }
-        constants.push(constant_of(alloc, unit, types, init, fields[k].ty)?)?;
+    match ty {
+        Ty::Struct(place) => match fields_of(types, place).get(number as usize) {
+            Some(field) => Some(field.ty),
+            None => None,
+        },
+        Ty::Array(place, length) if number < length => Some(type_at(types, place)),
+        _ => None,
     }
-    Ok(constants)
 }
 
-/// Values in braces for the elements of an array.
-#[cycle(inits)]
-fn element_constants(
-    alloc: Global,
+fn type_of_part(types: &Types, number: u64, ty: Option<Ty>) -> Option<Ty>
+    ensures { result ≡ part_type types.now number ty }
+{
+    match ty {
+        Some(ty) => part_in_type(types, number, ty),
+        None => None,
+    }
+}
+
+fn has_so_many_parts(types: &Types, count: u64, ty: Ty) -> bool
+    ensures { result ≡ has_parts types.now count ty }
+{
+    match ty {
+        Ty::Struct(place) => count <= fields_of(types, place).len() as u64,
+        Ty::Array(_, length) => count <= length,
+        _ => false,
+    }
+}
+
+/// Values in braces, which are no more than the parts of their type, if there is one.
+fn braced_constant(
     at: u32,
+    types: &Types,
+    constants: Items<Constant>,
+    ty: Option<Ty>,
+) -> Result<Constant, Refusal>
+    ensures { Tells (for_type (braced at types.now constants) ty) result }
+{
+    match ty {
+        Some(ty) if has_so_many_parts(types, constants.len() as u64, ty) => {
+            Ok(Constant::List(constants))
+        }
+        Some(_) => bad_initial(at),
+        None => Ok(Constant::Zero),
+    }
+}
+
+/// Values in braces for the parts of a type, the first for the first.
+#[cycle(inits)]
+fn part_constants(
+    alloc: Global,
     unit: &UnitScope,
     types: &Types,
-    length: u64,
-    element: Ty,
     inits: &[Init],
+    ty: Option<Ty>,
 ) -> Result<Items<Constant>, Refusal>
-    ensures { Tells (for_elements at length element (map (visit_init unit.now types.now) inits.now)) result }
+    ensures { Tells (for_parts types.now ty 0 (map (visit_init unit.now types.now) inits.now)) result }
 {
     let mut constants = Items::new(alloc);
     for (k, init) in inits.iter().enumerate() {
-        if k as u64 >= length {
-            return Err(refusal(TypeKind::BadInitial, at));
-        }
-        constants.push(constant_of(alloc, unit, types, init, element)?)?;
+        let part = type_of_part(types, k as u64, ty);
+        constants.push(constant_of(alloc, unit, types, init, part)?)?;
     }
     Ok(constants)
 }
@@ -218,26 +328,15 @@ fn list_constant(
     unit: &UnitScope,
     types: &Types,
     inits: &[Init],
-    ty: Ty,
+    ty: Option<Ty>,
 ) -> Result<Constant, Refusal>
     ensures { Tells (list_at at types.now (map (visit_init unit.now types.now) inits.now) ty) result }
 {
-    match ty {
-        Ty::Struct(place) => {
-            let fields = fields_of(types, place);
-            let list = field_constants(alloc, at, unit, types, fields, inits)?;
-            Ok(Constant::List(list))
-        }
-        Ty::Array(place, length) => {
-            let element = type_at(types, place);
-            let list = element_constants(alloc, at, unit, types, length, element, inits)?;
-            Ok(Constant::List(list))
-        }
-        _ => bad_initial(at),
-    }
+    let constants = part_constants(alloc, unit, types, inits, ty)?;
+    Ok(braced_constant(at, types, constants, ty)?)
 }
 
-/// An initial value of a global of this type (C11, 6.7.9).
+/// An initial value of a part of a global of this type, if there is the part (C11, 6.7.9).
 #[cycle(inits)]
 #[tactic(auto, using(c_typing::proofs::InitLaws::init_visits))]
 fn constant_of(
@@ -245,17 +344,19 @@ fn constant_of(
     unit: &UnitScope,
     types: &Types,
     init: &Init,
-    ty: Ty,
+    ty: Option<Ty>,
 ) -> Result<Constant, Refusal>
     ensures { Tells (visit_init unit.now types.now init.now ty) result }
 {
     match init {
         Init::Number(minus, n) => {
             let at = start_of(*minus, n.span.start);
-            Ok(number_constant(at, *minus, *n, ty)?)
+            Ok(number_constant_for(at, *minus, *n, ty)?)
         }
-        Init::Char(c, at) => Ok(char_constant(at.start, *c, ty)?),
-        Init::Text(text, at) => { Ok(text_constant(alloc, at.start, types, text.as_slice(), ty)?) }
+        Init::Char(c, at) => Ok(char_constant_for(at.start, *c, ty)?),
+        Init::Text(text, at) => {
+            Ok(text_constant_for(alloc, at.start, types, text.as_slice(), ty)?)
+        }
         Init::Name(and, name, steps) => {
             Ok(name_constant(alloc, unit, types, *and, name, steps.as_slice(), ty)?)
         }
@@ -280,7 +381,7 @@ pub fn optional_constant(
     ensures { Tells (visit_optional_init unit.now types.now init.now ty) result }
 {
     match init {
-        Some(init) => Ok(constant_of(alloc, unit, types, init.get(), ty)?),
+        Some(init) => Ok(constant_of(alloc, unit, types, init.get(), Some(ty))?),
         None => Ok(Constant::Zero),
     }
 }

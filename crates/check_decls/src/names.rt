@@ -1,8 +1,8 @@
 ghost use Rattle.std.specs.Prelude.{◌≡◌, OnOk};
 ghost use Rattle.c_typing.specs.Visits.{Leaves, Tells};
 ghost use Rattle.c_typing.specs.Scopes.{is_typedef, meaning_in, with_name};
-ghost use Rattle.c_typing.specs.Externals.{global_named, function_named, adjustor_named, is_reserved, no_global, no_function, no_adjustor, no_typedef, declare};
-ghost use Rattle.check_decls.specs.Steps.{unless};
+ghost use Rattle.c_typing.specs.Externals.{global_named, function_named, adjustor_named, is_reserved, no_global, no_function, no_adjustor, no_typedef, declare, standing};
+ghost use Rattle.check_decls.specs.Steps.{unless, refused_standing};
 
 use c_program::{AdjustDef, FunDef, GlobalDef};
 use c_tree::Name;
@@ -86,6 +86,25 @@ pub fn is_no_typedef(state: &Progress, name: &[u8]) -> bool
     ensures { result ≡ no_typedef state.now name.now }
 {
     find_service(name).is_some() || find_meaning(&state.scope, name).is_some()
+}
+
+fn kind_standing(stands: bool, kind: TypeKind) -> TypeKind
+    ensures { result ≡ standing stands kind }
+{
+    match kind {
+        TypeKind::BadType if stands => TypeKind::Redeclared,
+        _ => kind,
+    }
+}
+
+/// The refusal of the type of a name that may stand already: a type that there isn't is then another one.
+pub fn with_standing(stands: bool, refused: Refusal) -> Refusal
+    ensures { result ≡ refused_standing stands refused }
+{
+    match refused {
+        Refusal::Fault(f) => refusal(kind_standing(stands, f.kind), f.at),
+        Refusal::NoMemory => Refusal::NoMemory,
+    }
 }
 
 /// A name that isn't taken.

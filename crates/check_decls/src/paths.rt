@@ -11,70 +11,86 @@ use check_types::{find_field, refusal, small_place, type_at};
 use hx_words::Items;
 use std::alloc::Global;
 
-/// A field of a type, as a step, and its type.
-fn field_step(at: u32, types: &Types, name: &Name, ty: Ty) -> Result<(PathStep, Ty), Refusal>
+/// A part of a global: the path to it, its type, and whether each index is inside its array.
+#[derive(Drop)]
+pub struct FoundPart {
+    pub path: Items<PathStep>,
+    pub ty: Ty,
+    pub inside: bool,
+}
+
+/// What one step finds.
+#[derive(Clone, Copy)]
+pub struct FoundStep {
+    pub step: PathStep,
+    pub ty: Ty,
+    pub inside: bool,
+}
+
+/// A field of a type, and its type.
+fn field_step(at: u32, types: &Types, name: &Name, ty: Ty) -> Result<FoundStep, Refusal>
     ensures { TellsStep (field_in at types.now name.now.text ty) result }
 {
     let Ty::Struct(place) = ty else {
         return Err(refusal(TypeKind::NoField, at));
     };
     match find_field(types, place, name.text.as_slice()) {
-        Some((number, ty)) => Ok((PathStep::Field(small_place(number)?), ty)),
+        Some((number, ty)) => {
+            let step = PathStep::Field(small_place(number)?);
+            let inside = true;
+            Ok(FoundStep { step, ty, inside })
+        }
         None => Err(refusal(TypeKind::NoField, at)),
     }
 }
 
-/// An element of a type, as a step, and its type; an index past the array is no constant.
-fn element_step(
-    at: u32,
-    start: u32,
-    types: &Types,
-    index: u64,
-    ty: Ty,
-) -> Result<(PathStep, Ty), Refusal>
-    ensures { TellsStep (element_in at start types.now index ty) result }
+/// An element of a type, and its type.
+fn element_step(at: u32, types: &Types, index: u64, ty: Ty) -> Result<FoundStep, Refusal>
+    ensures { TellsStep (element_in at types.now index ty) result }
 {
     match ty {
-        Ty::Array(place, length) if index < length => {
-            Ok((PathStep::Element(index), type_at(types, place)))
-        }
-        Ty::Array(_, _) => Err(refusal(TypeKind::BadInitial, start)),
+        Ty::Array(place, length) => Ok(FoundStep {
+            step: PathStep::Element(index),
+            ty: type_at(types, place),
+            inside: index < length,
+        }),
         _ => Err(refusal(TypeKind::NotArray, at)),
     }
 }
 
-fn step_into(start: u32, types: &Types, step: &Step, ty: Ty) -> Result<(PathStep, Ty), Refusal>
-    ensures { TellsStep (one_step start types.now step.now ty) result }
+fn step_into(types: &Types, step: &Step, ty: Ty) -> Result<FoundStep, Refusal>
+    ensures { TellsStep (one_step types.now step.now ty) result }
 {
     match step {
         Step::Field(at, name) => Ok(field_step(at.start, types, name, ty)?),
-        Step::Index(at, n) => Ok(element_step(at.start, start, types, n.value, ty)?),
+        Step::Index(at, n) => Ok(element_step(at.start, types, n.value, ty)?),
     }
 }
 
-/// The part of a global that the steps behind its name stand for: its path, and its type.
+/// The part of a global that the steps behind its name stand for.
 ///
 /// # Errors
 ///
 /// The first step that finds no part, or want of memory.
 #[tactic(auto, using(crate::proofs::PartLaws::path_begun, crate::proofs::PartLaws::path_more, crate::proofs::PartLaws::path_failed, crate::proofs::PartLaws::path_ended))]
-pub fn path_of(
+pub fn part_by_path(
     alloc: Global,
-    start: u32,
     types: &Types,
     steps: &[Step],
     ty: Ty,
-) -> Result<(Items<PathStep>, Ty), Refusal>
-    ensures { TellsPart (part_by_steps start types.now steps.now ty) result }
+) -> Result<FoundPart, Refusal>
+    ensures { TellsPart (part_by_steps types.now steps.now ty) result }
 {
     let mut path = Items::new(alloc);
     let mut ty = ty;
+    let mut inside = true;
     for step in steps {
-        let (next, part) = step_into(start, types, step, ty)?;
-        path.push(next)?;
-        ty = part;
+        let found = step_into(types, step, ty)?;
+        path.push(found.step)?;
+        ty = found.ty;
+        inside &= found.inside;
     }
-    Ok((path, ty))
+    Ok(FoundPart { path, ty, inside })
 }
 
 /// The first step into what has no parts.

@@ -312,8 +312,7 @@ fn type_stmt(
     match x {
         Stmt::Empty(_) => Ok(TypedStmt::Empty),
         Stmt::Block(_, items) => {
-            let block = type_inner(alloc, unit, f, in_loop, items.as_slice(), locals, tables)?;
-            Ok(block)
+            Ok(type_inner(alloc, unit, f, in_loop, items.as_slice(), locals, tables)?)
         }
         Stmt::Effect(e) => {
             let tree = type_effect(alloc, unit, locals, e.get(), tables)?;

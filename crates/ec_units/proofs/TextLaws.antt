@@ -1,5 +1,5 @@
 -- The answer to a text, from those to its bytes and to its tokens.
-use Rattle.std.proofs.Common.{◌≡◌, ℕ, List, Result, Ok, Err, ap, ◌∙◌}
+use Rattle.std.proofs.Common.{◌≡◌, ℕ, List, Ok, Err, ap, ◌∙◌}
 use Rattle.c_lex.specs.declared.token.Token.{Token}
 use Rattle.c_lex.specs.declared.token.LexRefusal.{LexRefusal}
 use Rattle.c_lex.specs.declared.token.LexRefusal.TheVariants as lexical

@@ -1,12 +1,11 @@
 -- The verdict on all units, from the texts and what they are together.
-use Rattle.std.proofs.Common.{◌≡◌, ℕ, ◌+◌, ◌<◌, ◌≤◌, List, [], ◌∷◌, ◌++◌, map, length, Bool, true, Option, Some, None, Result, Ok, Err, refl, sym, ap, ◌∙◌, subst, arith, append-nil}
+use Rattle.std.proofs.Common.{◌≡◌, ℕ, ◌<◌, ◌≤◌, List, [], ◌∷◌, map, length, Bool, true, Some, None, Result, Ok, Err, sym, ap, ◌∙◌, subst, arith, append-nil}
 use Rattle.std.specs.Prelude.{nat_lt, if◌then◌else◌, IfOk}
 use Rattle.std.proofs.lemmas.Bool.Decides.{nat_tests}
 use Rattle.std.proofs.lemmas.List.{length-map}
 use Rattle.std.specs.Global.{Vec}
 use Rattle.hx_io.specs.Files.{Files}
 use Rattle.c_program.specs.declared.program.Program.{Program}
-use Rattle.c_typing.specs.declared.faults.UnitFault.{UnitFault}
 use Rattle.c_typing.specs.Units.{typed}
 use Rattle.c_check.specs.declared.refusals.CheckRefusal.{CheckRefusal}
 use Rattle.c_check.specs.declared.refusals.CheckRefusal.TheVariants as types
@@ -17,7 +16,7 @@ use Rattle.ec_limits.specs.Limits.{passed}
 use Rattle.ec_units.specs.declared.units.Checked.{Checked}
 use Rattle.ec_units.specs.declared.refusals.UnitsRefusal.{UnitsRefusal}
 use Rattle.ec_units.specs.declared.refusals.UnitsRefusal.TheVariants as refusal
-use Rattle.ec_units.specs.Verdicts.{Reason, over, passes, refuses, Named, Texts, no_texts, add_units, within_limits, after_types, after_texts, judged, named_in, verdict, named_with, texts_of, Fits}
+use Rattle.ec_units.specs.Verdicts.{over, passes, refuses, Named, Texts, no_texts, add_units, within_limits, after_types, after_texts, judged, named_in, verdict, named_with, texts_of, Fits}
 use Rattle.ec_units.specs.Steps.{LeavesTexts, AreRead, told_types}
 use Rattle.ec_units.proofs.UnitLaws.{not_above, none_left}
 

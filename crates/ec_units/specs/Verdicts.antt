@@ -1,6 +1,6 @@
 -- What units come to: the program that they are, or the first reason why they are none. The order of
 -- reasons and the numbers of bytes are this project's own.
-use Rattle.std.specs.Prelude.{◌≡◌, ℕ, zero, ◌+◌, max, nat_lt, if◌then◌else◌, Bool, List, [], ◌∷◌, ◌++◌, map, length, Contains, Option, Some, None, IfSome, Result, Ok, Err}
+use Rattle.std.specs.Prelude.{◌≡◌, ℕ, ◌+◌, max, nat_lt, if◌then◌else◌, Bool, List, [], ◌∷◌, ◌++◌, map, length, Contains, Option, Some, None, IfSome, Result, Ok, Err}
 use Rattle.std.specs.Global.{Vec}
 use Rattle.hx_io.specs.Files.{Files}
 use Rattle.c_lex.specs.declared.token.TokKind.{TokKind}

@@ -1,5 +1,5 @@
-use Rattle.std.proofs.Common.{◌≡◌, sym, ◌∙◌, arith}
-use Rattle.c_typing.specs.Externals.{declare_function, no_new_function}
+use Rattle.std.proofs.Common.{sym, ◌∙◌, arith}
+use Rattle.c_typing.specs.Externals.{no_new_function}
 use Rattle.check_decls.proofs.TakenLaws.{function_tested}
 use Rattle.check_decls.proofs.functions.declare_new_head.Goals as goal
 

@@ -1,5 +1,5 @@
-use Rattle.std.proofs.Common.{◌≡◌, sym, ◌∙◌, arith}
-use Rattle.c_typing.specs.Externals.{declare_global, no_new_global}
+use Rattle.std.proofs.Common.{sym, ◌∙◌, arith}
+use Rattle.c_typing.specs.Externals.{no_new_global}
 use Rattle.check_decls.proofs.TakenLaws.{global_tested}
 use Rattle.check_decls.proofs.globals.declare_new.Goals as goal
 

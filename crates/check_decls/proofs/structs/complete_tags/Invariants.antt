@@ -1,4 +1,4 @@
-use Rattle.std.proofs.Common.{◌≡◌, ◌++◌, take, drop, length}
+use Rattle.std.proofs.Common.{◌≡◌, ◌++◌, take, drop}
 use Rattle.c_typing.specs.Structs.{completed}
 use Rattle.check_decls.proofs.structs.complete_tags.Given as goal
 

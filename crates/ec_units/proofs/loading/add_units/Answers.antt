@@ -1,6 +1,5 @@
-use Rattle.std.proofs.Common.{◌≡◌, ◌≤◌, ◌<◌, ◌∙◌, ap, sym, subst, length, List, ℕ, Option, Some, Result, Ok, Err, arith, rules}
+use Rattle.std.proofs.Common.{◌≡◌, ◌<◌, ◌∙◌, sym, subst, length, List, ℕ, Ok, Err, arith}
 use Rattle.std.specs.Prelude.{IsTrue, string_bytes}
-use Rattle.hx_io.specs.Files.{SameFiles}
 use Rattle.hx_io.proofs.FileLaws.{SameFiles-trans}
 use Rattle.ec_units.specs.Verdicts.{add_file}
 use Rattle.ec_units.specs.Steps.{texts_in, LeavesTexts, AddsFile}

@@ -1,6 +1,4 @@
-use Rattle.std.proofs.Common.{◌≡◌, List, Result, Ok, Err, sym, ap, ◌∙◌, subst}
-use Rattle.c_lex.specs.declared.token.Token.{Token}
-use Rattle.c_lex.specs.declared.token.LexRefusal.{LexRefusal}
+use Rattle.std.proofs.Common.{◌≡◌, Ok, Err, sym, ap, ◌∙◌, subst}
 use Rattle.c_lex.specs.Reading.{tokens_of}
 use Rattle.ec_units.specs.Verdicts.{longest_in}
 use Rattle.ec_units.specs.Steps.{ReadsText}

@@ -1,4 +1,3 @@
-use Rattle.std.proofs.Common.{◌≡◌, ◌≤◌, length, arith}
 use Rattle.std.specs.Prelude.{string_bytes}
 use Rattle.ec_units.specs.Steps.{texts_in}
 use Rattle.ec_units.proofs.VerdictLaws.{verdict_many, verdict_left, verdict_fits, verdict_read}
