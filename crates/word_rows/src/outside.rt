@@ -4,7 +4,10 @@ ghost use Rattle.hx_words.specs.Counts.{Rose};
 ghost use Rattle.hx_io.specs.Streams.{Puts};
 ghost use Rattle.hx_io.specs.Files.{SameButAt};
 
-use crate::*;
+use hx_io::{
+    FailSink, FailSource, FailStore, Failed, Found, MemSink, MemSource, MemStore, Sink, Source,
+    Store, StoreFail,
+};
 use std::alloc::Global;
 use std::process::Abort;
 use std::test::Fail;

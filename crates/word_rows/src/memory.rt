@@ -1,8 +1,8 @@
 //! Accesses at the ends of regions, across neighbours, in the guard range and at the ends of the
 //! address space, with values worked out by hand.
 
-use crate::{MemBad, Memory, Region};
 use hx_bits::Width;
+use hx_mem::{MemBad, Memory, Region};
 use std::alloc::Global;
 use std::process::Abort;
 use std::test::Fail;

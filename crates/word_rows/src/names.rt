@@ -1,6 +1,6 @@
 //! Names as a linker's map shows them.
 
-use crate::{NameRefusal, mangle, thunk_name, unmangle};
+use hx_names::{NameRefusal, mangle, thunk_name, unmangle};
 use std::test::Fail;
 
 #[test]

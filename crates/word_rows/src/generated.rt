@@ -1,7 +1,7 @@
 //! Units by hand: the lines of one function, and of five functions of all four forms. The draws of the second were
-//! worked out apart from this crate: 4 draws 2, 0, 974; 3, 1, 507; 1, 2, 914; 0, 3, 114.
+//! worked out apart from `case_gen`: 4 draws 2, 0, 974; 3, 1, 507; 1, 2, 914; 0, 3, 114.
 
-use crate::generate;
+use case_gen::generate;
 use std::alloc::{AllocError, Global};
 use std::test::Fail;
 

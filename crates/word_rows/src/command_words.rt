@@ -1,6 +1,6 @@
 //! Words and what they are, worked out by hand from the table of commands.
 
-use crate::{BaseMarking, Command, Marking, number, read_command, sides_of};
+use ec_words::{BaseMarking, Command, Marking, number, read_command, sides_of};
 use std::test::Fail;
 
 fn read<R: AllocGlobal>(rt: &R, line: &[&str]) -> Result<Option<Command>, Fail> {

@@ -1,6 +1,6 @@
 //! Fields of encodings from the Arm Architecture Reference Manual, and numbers worked out by hand.
 
-use crate::{Width, field, le_u16_at, le_u32_at, le_u64_at, put_field, sign_extend, truncate};
+use hx_bits::{Width, field, le_u16_at, le_u32_at, le_u64_at, put_field, sign_extend, truncate};
 use std::test::Fail;
 
 #[test]

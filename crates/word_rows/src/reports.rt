@@ -1,6 +1,6 @@
 //! Lines and statuses, written out by hand.
 
-use crate::{
+use ec_report::{
     LimitKind, LoadRefusal, Outcome, Report, StuckWhy, TypeKind, UnitRefusal, line, status_of,
 };
 use std::process::Abort;
