@@ -1,6 +1,6 @@
 //! Texts with their answers by hand.
 
-use crate::{code, parse};
+use first_form::{code, parse};
 use std::process::Abort;
 use std::test::Fail;
 

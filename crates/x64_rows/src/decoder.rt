@@ -1,9 +1,9 @@
 //! Spellings as GNU as gives them, and bytes that are refused.
 
-use crate::instruction::{XBad, XInstr};
 use crate::spellings::SPELLINGS;
-use crate::{decode, encode};
 use reg_map::registers::X64Reg;
+use x64_isa::instruction::{XBad, XInstr};
+use x64_isa::{decode, encode};
 
 static REFUSED: [(&[u8], XBad); 26] = [
     (b"", XBad::Short),

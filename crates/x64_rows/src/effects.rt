@@ -6,13 +6,13 @@
 ghost use Rattle.std.specs.Prelude.{◌≡◌, ◌<◌, IfSome, Some};
 ghost use Rattle.x64_isa.specs.Spelling.{Valid};
 
-use crate::event::XEvent;
-use crate::step::step;
 use hx_bits::Width;
 use hx_mem::{Memory, Region};
 use reg_map::registers::{AFlags, Cpu, X64Reg, XFlags};
 use std::alloc::{AllocError, Global};
 use std::test::Fail;
+use x64_exec::event::XEvent;
+use x64_exec::step::step;
 use x64_isa::{XInstr, decode};
 
 const BUFFER: u64 = 0x6000_0000;

@@ -1,7 +1,7 @@
 //! Spellings as GNU as gives them: made by `tools/x64_vectors.py`.
 
-use crate::instruction::{Condition, Place, XInstr};
 use reg_map::registers::X64Reg;
+use x64_isa::instruction::{Condition, Place, XInstr};
 
 pub static SPELLINGS: [(XInstr, &[u8]); 151] = [
     // {load} mov rax, rsp

@@ -1,8 +1,8 @@
 //! Images whose runs were worked out by hand; their bytes are from GNU as.
 
-use crate::ends::{RunEnd, StuckWhy};
-use crate::guest::IMAGE_BASE;
-use crate::run::run;
+use flat_machine::ends::{RunEnd, StuckWhy};
+use flat_machine::guest::IMAGE_BASE;
+use flat_machine::run::run;
 use hx_io::MemSink;
 use std::test::Fail;
 

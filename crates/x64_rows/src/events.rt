@@ -4,12 +4,12 @@ ghost use Rattle.std.specs.Prelude.{◌≡◌, IfSome, Some};
 ghost use Rattle.x64_isa.specs.Spelling.{Valid};
 
 use crate::effects::{STACK, cpu_of, memory, read};
-use crate::event::{XEvent, XFault};
-use crate::step::step;
 use hx_bits::Width;
 use hx_mem::MemBad;
 use reg_map::registers::X64Reg;
 use std::test::Fail;
+use x64_exec::event::{XEvent, XFault};
+use x64_exec::step::step;
 
 const MIN: u64 = 1 << 63;
 
