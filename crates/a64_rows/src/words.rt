@@ -2,8 +2,8 @@
 //! gives the word for it again; a place is written from the instruction, as `.+8`. None stands for a
 //! word outside the table. `tools/a64_vectors.py rows` writes the rows.
 
-use crate::instruction::{AInstr, Condition};
-use crate::words::{decode, encode};
+use a64_isa::instruction::{AInstr, Condition};
+use a64_isa::words::{decode, encode};
 use reg_map::registers::A64Reg;
 
 macro_rules! rows {

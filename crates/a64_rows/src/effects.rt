@@ -5,8 +5,8 @@
 
 ghost use Rattle.std.specs.Prelude.{◌<◌};
 
-use crate::event::{AEvent, AFault};
-use crate::execute::step;
+use a64_exec::event::{AEvent, AFault};
+use a64_exec::execute::step;
 use a64_isa::words::decode;
 use hx_bits::Width;
 use hx_mem::fault::MemBad;
