@@ -1,6 +1,6 @@
 //! Sequences worked out by hand, and bytes that are none.
 
-use crate::{jump_of, sequence};
+use fast_forward::{jump_of, sequence};
 
 // mov rax,rsp; mov [rax+20h],rbx; push rbp; pop rbp; jmp +1002h; int3; int3, and the byte 90 behind them.
 static BYTES: [u8; 17] = [

@@ -1,7 +1,7 @@
 //! Objects and files that are none, with what the rules say of each. An oracle of a hundred lines
 //! of Python, written from the rules alone, gave the same answers.
 
-use crate::{ObjRefusal, read};
+use coff_read::{ObjRefusal, read};
 use coff_write::{ObjMachine, ObjSection, ObjSite, ObjSymbol, Object, valid_object, write};
 use hx_names::SiteKind;
 use hx_words::Items;

@@ -6,9 +6,9 @@
 //! symbol 3 an entry thunk, `?3` a guest exit thunk. An answer has the sections that are kept, and the
 //! names with their places: `=` for a place, `~` for the sequence that leads there.
 
-use crate::{LinkRefusal, NamePlace, Resolved, are_few, resolve};
 use coff_write::{HybridRow, ObjMachine, ObjSection, ObjSymbol, Object};
 use hx_words::Items;
+use link_resolve::{LinkRefusal, NamePlace, Resolved, are_few, resolve};
 use std::alloc::{AllocError, Global};
 use std::test::Fail;
 

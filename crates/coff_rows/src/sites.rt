@@ -1,9 +1,9 @@
 //! Sites and what they become, worked out by hand; the words of instructions are those of the Arm Architecture
 //! Reference Manual for the operands beside them.
 
-use crate::{RelocRefusal, apply};
 use hx_bits::{Width, write_number};
 use hx_names::SiteKind;
+use link_reloc::{RelocRefusal, apply};
 
 const BASE: u64 = 0x1_4000_0000;
 
@@ -224,7 +224,7 @@ static ROWS: [(SiteKind, u32, u32, u64, Result<u64, RelocRefusal>); 35] = [
 ];
 
 #[test]
-#[tactic(auto, using(crate::proofs::Fills::width_le))]
+#[tactic(auto, using(link_reloc::proofs::Fills::width_le))]
 fn sites(rt: HostRuntime) {
     for (kind, site, target, number, want) in &ROWS {
         let mut before = [0x5A; 16];

@@ -1,7 +1,9 @@
 //! An object of every part, with the bytes of its file worked out by hand from Microsoft's PE/COFF
 //! specification. tools/coff_sample.py shows them to llvm-readobj.
 
-use crate::{HybridRow, ObjMachine, ObjSection, ObjSite, ObjSymbol, Object, valid_object, write};
+use coff_write::{
+    HybridRow, ObjMachine, ObjSection, ObjSite, ObjSymbol, Object, valid_object, write,
+};
 use hx_names::SiteKind;
 use hx_words::Items;
 use std::alloc::{AllocError, Global};
