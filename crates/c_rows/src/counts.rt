@@ -1,10 +1,9 @@
-use crate::counting::nodes;
-use crate::expressions::{Arithmetic, Comparison, Place, Target, TypedExpr};
-use crate::frames::frame_bytes;
-use crate::named::function_named;
-use crate::program::{FunDef, FunctionBody, Program};
-use crate::statements::{TypedItem, TypedStmt};
-use crate::value_types::type_of;
+//! Nodes, frames, functions by name and types of values, counted by hand.
+
+use c_program::{
+    Arithmetic, Comparison, FunDef, FunctionBody, Place, Program, Target, TypedExpr, TypedItem,
+    TypedStmt, frame_bytes, function_named, nodes, type_of,
+};
 use c_types::{FunTy, IntTy, Ty, Types};
 use hx_words::{Boxed, Items};
 use std::alloc::{AllocError, Global};

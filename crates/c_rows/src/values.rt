@@ -1,8 +1,10 @@
-use crate::{
-    Object, Parts, Root, Value, arithmetic, compare, copy_value, find, number, truth, write, zero,
-};
+//! Values and what operations make of them, worked out by hand.
+
 use c_program::{Arithmetic, Comparison, PathStep};
 use c_types::{FieldDef, IntTy, StructDef, Ty, Types};
+use c_values::{
+    Object, Parts, Root, Value, arithmetic, compare, copy_value, find, number, truth, write, zero,
+};
 use hx_words::Items;
 use std::alloc::{AllocError, Global};
 

@@ -1,7 +1,8 @@
-use crate::declarations::{FunctionHead, Item, Params, Unit};
-use crate::expressions::{Base, Expr, Literal, Name, TypeName};
-use crate::measure::height;
-use crate::statements::{BlockItem, Stmt};
+//! The height of a tree, counted by hand.
+
+use c_tree::{
+    Base, BlockItem, Expr, FunctionHead, Item, Literal, Name, Params, Stmt, TypeName, Unit, height,
+};
 use c_types::{IntTy, Span};
 use hx_words::{Boxed, Items};
 use std::alloc::{AllocError, Global};

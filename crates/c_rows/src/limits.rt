@@ -1,8 +1,8 @@
 //! Programs at their limits, and one over.
 
-use crate::{Passed, first_limit};
 use c_program::{FunDef, GlobalDef, IntTy, Program, Ty, Types};
 use c_types::{FieldDef, FunTy, StructDef};
+use ec_limits::{Passed, first_limit};
 use ec_report::LimitKind;
 use hx_words::Items;
 use std::alloc::{AllocError, Global};

@@ -1,5 +1,6 @@
-use crate::measure::{align, layout, offset, size};
-use crate::types::{FieldDef, IntTy, StructDef, Ty, Types};
+//! Sizes, alignments and places of fields, worked out by hand.
+
+use c_types::{FieldDef, IntTy, StructDef, Ty, Types, align, layout, offset, size};
 use hx_words::Items;
 use std::alloc::{AllocError, Global};
 

@@ -3,13 +3,13 @@
 mod building;
 mod printing;
 
-use crate::type_items;
 use building::block_of;
 use c_types::{IntTy, Ty, Types};
 use c_typing::{
     Enclosing, Fault, LocalMeaning, LocalName, LocalScope, Meaning, Refusal, Tables, UnitName,
     UnitScope,
 };
+use check_stmt::type_items;
 use hx_words::Items;
 use printing::show_items;
 use std::alloc::{AllocError, Global};

@@ -1,6 +1,6 @@
 //! Small texts, with their tokens and places worked out by hand from C.
 
-use crate::{TokKind, Token, lex};
+use c_lex::{TokKind, Token, lex};
 use std::alloc::{AllocError, Global};
 use std::fmt::Write;
 use std::process::Abort;
