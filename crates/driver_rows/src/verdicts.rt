@@ -1,7 +1,7 @@
 //! Units that are a program, and units that are none, by hand.
 
-use crate::{UnitsRefusal, check_units};
 use ec_report::{LimitKind, TypeKind, UnitRefusal};
+use ec_units::{UnitsRefusal, check_units};
 use hx_io::{FailStore, MemStore, Store};
 use std::alloc::{AllocError, Global};
 use std::process::Abort;

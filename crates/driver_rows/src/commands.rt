@@ -1,6 +1,6 @@
 //! The command over objects in memory, with answers worked out by hand.
 
-use crate::{ecc, status_of};
+use ec_driver::{ecc, status_of};
 use hx_io::{FailSink, FailStore, MemSink, MemSource, MemStore, Store};
 use std::process::Abort;
 use std::test::Fail;
