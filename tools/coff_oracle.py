@@ -1,7 +1,7 @@
 #!/usr/bin/env python3
 """Reads objects by the rules of docs/OBJECTS.md, apart from the crates.
 
-    tools/coff_oracle.py            compares the table of crates/coff_read/src/tests.rt with what is told here
+    tools/coff_oracle.py            compares the table of crates/coff_rows/src/reading.rt with what is told here
     tools/coff_oracle.py FILE..     prints the object in each file, or its first refusal
 """
 import pathlib
@@ -205,7 +205,7 @@ def told(data):
 
 
 def compare():
-    text = (pathlib.Path(__file__).parent.parent / "crates/coff_read/src/tests.rt").read_text()
+    text = (pathlib.Path(__file__).parent.parent / "crates/coff_rows/src/reading.rt").read_text()
     sample = text[text.index("static SAMPLE"):]
     sample = sample[sample.index("= [") + 3:sample.index("];")]
     lines = [line.split("//")[0] for line in sample.split("\n")]

@@ -1,7 +1,7 @@
 #!/usr/bin/env python3
 """Spellings of x64 instructions by GNU as, as the rows of a test table.
 
-  x64_vectors.py              prints the rows of crates/x64_isa/src/spellings.rt
+  x64_vectors.py              prints the rows of crates/x64_rows/src/spellings.rt
   x64_vectors.py --random N   prints a table of N random instructions instead
   x64_vectors.py --check      tells whether spellings.rt is what the assembler gives now
 
@@ -202,7 +202,7 @@ def assemble(texts):
 def table(rows):
     texts = [t for _, t in rows]
     text = ("//! Spellings as GNU as gives them: made by `tools/x64_vectors.py`.\n\n"
-            "use crate::instruction::{Condition, Place, XInstr};\nuse reg_map::registers::X64Reg;\n\n"
+            "use reg_map::registers::X64Reg;\nuse x64_isa::instruction::{Condition, Place, XInstr};\n\n"
             f"pub static SPELLINGS: [(XInstr, &[u8]); {len(rows)}] = [\n")
     for (rust, source), code in zip(rows, assemble(texts)):
         spelled = "".join("\\x%02X" % b for b in code)
@@ -222,7 +222,7 @@ def main():
         return 0
     made = table(rows_of(Ends()))
     if "--check" in sys.argv:
-        path = os.path.join(os.path.dirname(__file__), "..", "crates", "x64_isa", "src", "spellings.rt")
+        path = os.path.join(os.path.dirname(__file__), "..", "crates", "x64_rows", "src", "spellings.rt")
         squeeze = lambda s: re.sub(r"[\s,]+", "", re.sub(r"//.*", "", s))
         same = squeeze(open(path).read()) == squeeze(made)
         print("the table is the assembler's" if same else "the table differs")

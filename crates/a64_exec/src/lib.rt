@@ -6,8 +6,6 @@
 
 mod access;
 mod blocked;
-#[cfg(test)]
-mod effects;
 pub mod event;
 pub mod execute;
 pub mod laws;

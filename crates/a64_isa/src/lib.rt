@@ -6,8 +6,6 @@
 
 pub mod instruction;
 mod operands;
-#[cfg(test)]
-mod vectors;
 pub mod words;
 
 pub use instruction::{AInstr, Condition};

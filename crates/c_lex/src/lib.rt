@@ -22,6 +22,3 @@ pub use marks::{Mark, known_mark};
 pub use reading::lex;
 pub use token::{LexRefusal, TokKind, Token};
 pub use words::{Word, reserved_word};
-
-#[cfg(test)]
-mod tests;

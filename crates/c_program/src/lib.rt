@@ -24,6 +24,3 @@ pub use program::{
 };
 pub use statements::{Declared, ForBegin, TypedItem, TypedStmt};
 pub use value_types::type_of;
-
-#[cfg(test)]
-mod tests;

@@ -233,6 +233,3 @@ pub fn height(unit: &Unit) -> u64
     }
     above(most)
 }
-
-#[cfg(test)]
-mod tests;

@@ -198,6 +198,3 @@ pub fn offset(types: &Types, s: u32, field: u32) -> u64
         None => 0,
     }
 }
-
-#[cfg(test)]
-mod tests;

@@ -20,6 +20,3 @@ pub use objects::{copy_object, copy_value, find, part, write};
 pub use parts::Parts;
 pub use value::{Object, Root, Value};
 pub use zeros::zero;
-
-#[cfg(test)]
-mod tests;

@@ -6,8 +6,6 @@
 #![tactic(auto)]
 
 mod numbers;
-#[cfg(test)]
-mod tests;
 mod units;
 
 pub use units::generate;

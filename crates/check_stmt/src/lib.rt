@@ -8,7 +8,5 @@ mod lists;
 mod locals;
 mod rules;
 mod statements;
-#[cfg(test)]
-mod tests;
 
 pub use statements::type_items;

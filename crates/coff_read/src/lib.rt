@@ -15,8 +15,6 @@ mod ranges;
 mod reading;
 mod refusal;
 mod relocations;
-#[cfg(test)]
-mod tests;
 
 pub use reading::read;
 pub use refusal::ObjRefusal;

@@ -10,8 +10,6 @@
 mod object;
 mod records;
 mod rows;
-#[cfg(test)]
-mod tests;
 pub mod theorems;
 mod validity;
 mod writing;

@@ -8,8 +8,6 @@ mod building;
 mod definitions;
 mod driver;
 mod planning;
-#[cfg(test)]
-mod tests;
 
 pub use driver::ecc;
 pub use ec_report::{Outcome, Report, status_of};

@@ -7,8 +7,6 @@
 
 mod counts;
 mod limits;
-#[cfg(test)]
-mod tests;
 
 pub use counts::Passed;
 pub use limits::first_limit;

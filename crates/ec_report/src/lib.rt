@@ -9,8 +9,6 @@ mod laws;
 mod lines;
 mod names;
 mod reports;
-#[cfg(test)]
-mod tests;
 
 pub use kinds::{LimitKind, LoadRefusal, Outcome, StuckWhy, TypeKind, UnitRefusal};
 pub use laws::lines_tell_statuses;

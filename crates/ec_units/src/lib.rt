@@ -8,8 +8,6 @@
 mod loading;
 mod refusals;
 mod state;
-#[cfg(test)]
-mod tests;
 mod texts;
 mod units;
 

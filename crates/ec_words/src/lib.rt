@@ -15,8 +15,6 @@ mod parse;
 mod rule;
 mod sides;
 mod table;
-#[cfg(test)]
-mod tests;
 
 pub use commands::{Command, read_command};
 pub use laws::{line_laws, marking_laws, number_laws};

@@ -6,8 +6,6 @@
 
 pub mod law;
 mod shape;
-#[cfg(test)]
-mod tests;
 
 pub use law::leads;
 pub use shape::{jump_of, sequence};

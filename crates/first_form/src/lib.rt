@@ -10,8 +10,6 @@ mod laws;
 mod reading;
 mod scanning;
 mod services;
-#[cfg(test)]
-mod tests;
 
 pub use coding::code;
 pub use laws::{code_size, one_reading, within_bytes};

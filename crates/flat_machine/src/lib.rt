@@ -9,5 +9,3 @@ pub mod ends;
 pub mod guest;
 pub mod run;
 pub mod service;
-#[cfg(test)]
-mod tests;

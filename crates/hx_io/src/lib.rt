@@ -21,6 +21,3 @@ pub use mem_store::MemStore;
 pub use mem_streams::{MemSink, MemSource};
 pub use outside::{Failed, Found, Sink, Source, Store, StoreFail};
 pub use system::{FileStore, StdSink, StdSource};
-
-#[cfg(test)]
-mod tests;

@@ -12,8 +12,6 @@
 pub mod fault;
 pub mod memory;
 pub mod region;
-#[cfg(test)]
-mod tests;
 pub mod theorems;
 
 pub use fault::MemBad;

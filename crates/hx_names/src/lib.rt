@@ -7,8 +7,6 @@
 
 pub mod mangling;
 pub mod pieces;
-#[cfg(test)]
-mod tests;
 pub mod theorems;
 
 pub use mangling::{NameRefusal, mangle, thunk_name, unmangle};

@@ -8,8 +8,6 @@
 pub mod fields;
 pub mod refusal;
 pub mod sites;
-#[cfg(test)]
-mod tests;
 pub mod theorems;
 
 pub use refusal::RelocRefusal;

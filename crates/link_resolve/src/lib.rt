@@ -15,8 +15,6 @@ mod refusing;
 mod resolved;
 mod resolving;
 mod table;
-#[cfg(test)]
-mod tests;
 pub mod theorems;
 
 pub use listing::are_few;

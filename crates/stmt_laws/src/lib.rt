@@ -30,6 +30,3 @@ pub fn reads_bodies()
 pub fn completes_bodies()
     ensures { (n : ℕ) → 1 ≤ n → (z : List Terminal) (st : BodyState) → Came (body_step n) body_start z st [] → (s : Span) → CanEnd BodyState Body (body_step n) st (mark CloseBrace s) }
 {}
-
-#[cfg(test)]
-mod tests;

@@ -7,14 +7,10 @@
 
 mod access;
 mod division;
-#[cfg(test)]
-mod effects;
 pub mod event;
 mod stack;
 mod state;
 pub mod step;
-#[cfg(test)]
-mod tests;
 mod values;
 
 pub use event::{XEvent, XFault};

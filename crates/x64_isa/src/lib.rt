@@ -18,8 +18,3 @@ pub use decoder::decode;
 pub use encoder::encode;
 pub use instruction::{Condition, Operand, Place, XBad, XInstr};
 pub use law::one_reading;
-
-#[cfg(test)]
-mod spellings;
-#[cfg(test)]
-mod tests;

@@ -1,7 +1,7 @@
-//! The streams and files of the system, and streams that fail in the middle.
-use super::{FileStore, StdSink, StdSource, read_whole};
-use crate::outside::{Failed, Found, Sink, Source, Store, StoreFail};
-use std::io::{Read, Write};
+//! Readers that fail in the middle, and the count of a file store's faults: what no public call shows.
+use super::{FileStore, StdSource, read_whole};
+use crate::outside::{Failed, Found, Source, Store, StoreFail};
+use std::io::Read;
 use std::process::Abort;
 use std::rt::Files;
 use std::test::Fail;
@@ -33,29 +33,6 @@ impl Read for Steps<'_> {
     }
 }
 
-/// Takes at most so many bytes in each write in turn, or fails where there is no number.
-#[derive(Drop)]
-struct Takes<'a> {
-    turns: &'a [Option<usize>],
-    taken: Vec<u8>,
-}
-
-impl Write for Takes<'_> {
-    fn write(&mut self, buf: &[u8]) -> io::Result<usize> {
-        let Some((Some(most), rest)) = self.turns.split_first() else {
-            return Err(io::ErrorKind::Other.into());
-        };
-        self.turns = rest;
-        let count = buf.len().min(*most);
-        self.taken.extend_from_slice(&buf[..count])?;
-        Ok(count)
-    }
-
-    fn flush(&mut self) -> io::Result<()> {
-        Ok(())
-    }
-}
-
 #[test]
 fn a_reader_that_fails_goes_on(rt: HostRuntime) -> Result<(), Fail> {
     let steps = [Some(1), None, Some(2)];
@@ -73,25 +50,6 @@ fn a_reader_that_fails_goes_on(rt: HostRuntime) -> Result<(), Fail> {
         (&[Some(1)], 0, Ok(Found::Longer)),
     ] {
         assert_eq!(rt; read_whole(alloc, &mut Steps { steps }, most), answer);
-    }
-    Ok(())
-}
-
-#[test]
-fn a_writer_may_take_a_piece_in_parts(rt: HostRuntime) -> Result<(), Fail> {
-    let alloc = rt.alloc();
-    for (turns, answer, taken) in [
-        ([Some(1), Some(9)].as_slice(), Ok(()), "abc"),
-        (&[Some(2), Some(0), Some(9)], Err(Failed), "ab"),
-        (&[Some(1), None, Some(9)], Err(Failed), "a"),
-    ] {
-        let mut sink = StdSink::new(Takes {
-            turns,
-            taken: Vec::new(alloc),
-        });
-        assert_eq!(rt; sink.put(b""), Ok(()));
-        assert_eq!(rt; sink.put(b"abc"), answer);
-        assert_eq!(rt; sink.writer.taken.as_slice(), taken.as_bytes());
     }
     Ok(())
 }
@@ -136,18 +94,5 @@ fn files_hold_what_was_saved(rt: HostRuntime) -> Result<(), Fail> {
     );
     assert_eq!(rt; store.faults, 2);
     fs::remove_dir_all(&rt, FOLDER)?;
-    Ok(())
-}
-
-#[test]
-fn a_sink_and_a_source_share_a_file(rt: HostRuntime) -> Result<(), Fail> {
-    let mut sink = StdSink::new(fs::create(&rt, "hx_io_stream")?);
-    assert_eq!(rt; sink.put(b"xy"), Ok(()));
-    drop(sink);
-    let mut source = StdSource::new(fs::open(&rt, "hx_io_stream")?);
-    for answer in [Ok(Some(b'x')), Ok(Some(b'y')), Ok(None)] {
-        assert_eq!(rt; source.next(), answer);
-    }
-    fs::remove_file(&rt, "hx_io_stream")?;
     Ok(())
 }

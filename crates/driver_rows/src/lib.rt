@@ -1,0 +1,7 @@
+//! Rows for the verdict on units, and for the whole command.
+#![tactic(auto)]
+
+#[cfg(test)]
+mod commands;
+#[cfg(test)]
+mod verdicts;
