@@ -11,6 +11,10 @@ const HI: &str = "int main(void){put_byte(72);put_byte(361);return 7;}";
 const MUL: &str =
     "int mul(int a,int b){return a*b;} int add(int a,int b){return mul(a,2)+b;} int main(void){put_byte(add(30,5));return 0;}";
 
+/// The text of a number with one function, which draws nothing.
+const GENERATED: &str =
+    "typedef long long (*fn)(long long, long long);\nlong long f0(long long a, long long b) { return a + b; }\nfn table[1] = { f0 };\nint main(void) {\n  int i;\n  long long v = 1;\n  for (i = 0; i < 1; i++) {\n    v = table[i](v, i) % 1000000;\n    put_byte(65 + (int)((unsigned long long)v % 26));\n  }\n  return 0;\n}\n";
+
 /// The calls that fail, of the store, the output and the notes.
 #[derive(Clone, Copy)]
 struct Fails<'a> {
@@ -54,7 +58,10 @@ fn runs<R: Abort + AllocGlobal>(
     files_held.save(alloc, "q.c", b"int g;")?;
     let mut store = FailStore::new(files_held, Vec::from_slice(alloc, fails.store)?);
     let mut input = MemSource::new(Vec::new(alloc));
-    let mut out = FailSink::new(MemSink::new(alloc, 64)?, Vec::from_slice(alloc, fails.out)?);
+    let mut out = FailSink::new(
+        MemSink::new(alloc, 512)?,
+        Vec::from_slice(alloc, fails.out)?,
+    );
     let mut notes = FailSink::new(
         MemSink::new(alloc, 64)?,
         Vec::from_slice(alloc, fails.notes)?,
@@ -108,7 +115,7 @@ static BUILT: [Row; 6] = [
     ("exec p.c -o p.img -m ec,main", HI, "Hi", "exit 7\n", 0),
 ];
 
-/// Nothing is put, and no image is saved.
+/// No image is saved.
 static OTHERS: [Row; 30] = [
     ("check p.c", HI, "", "checked\n", 0),
     ("check p.c q.c", HI, "", "checked\n", 0),
@@ -123,7 +130,7 @@ static OTHERS: [Row; 30] = [
     ("link p.obj -o p.img", HI, "", "not built\n", 29),
     ("build p.c -o p.img", HI, "", "not built\n", 29),
     ("run p.img", HI, "", "not built\n", 29),
-    ("gen 1", HI, "", "not built\n", 29),
+    ("gen 1 --size 1", HI, GENERATED, "generated\n", 0),
     ("many 1 -o p", HI, "", "not built\n", 29),
     ("exec p.c -o p.img -m x64,sub", MUL, "", "mark sub\n", 22),
     ("exec p.c -o p.img -m x64,", MUL, "", "mark \n", 22),

@@ -7,13 +7,14 @@ use Rattle.flat_machine.specs.declared.ends.RunEnd.TheVariants.{Exit as ExitEnd}
 use Rattle.flat_machine.specs.Steps.{Goes, Ends}
 use Rattle.flat_machine.specs.Runs.{Run, flat_run}
 use Rattle.ec_words.specs.Table.{Text}
-use Rattle.ec_words.specs.Commands.{Form, check, exec, command_of}
+use Rattle.case_gen.specs.Units.{unit_of}
+use Rattle.ec_words.specs.Commands.{Form, check, exec, gen, command_of}
 use Rattle.ec_report.specs.declared.kinds.Outcome.{Outcome}
 use Rattle.ec_report.specs.declared.kinds.Outcome.TheVariants.{Exit, Budget}
 use Rattle.ec_report.specs.declared.reports.Report.{Report}
 use Rattle.ec_report.specs.declared.reports.Report.TheVariants as answer
-use Rattle.ec_driver.specs.Courses.{Course, Checks, Builds, course_of}
-use Rattle.ec_driver.specs.Answers.{StoreCall, SinkCall, SinkRose, Follows, IsCaused, HasImage, IsImage, IsOutcome, output_of, RunStands, ExecLeaves, Stands, Tells, Answers, ExecWords, exec_form, Exited, IsGood, IsSound}
+use Rattle.ec_driver.specs.Courses.{Course, Checks, Generates, Builds, course_of}
+use Rattle.ec_driver.specs.Answers.{StoreCall, SinkCall, SinkRose, Follows, IsCaused, HasImage, IsImage, IsOutcome, output_of, RunStands, ExecLeaves, Stands, Tells, Answers, ExecWords, exec_form, Exited, IsGood, IsSound, GenPuts, IsGenerating, Generated}
 use Rattle.ec_driver.proofs.Ended.{image_ends, image_exits}
 
 -- the report is that of the command, or memory ran out, or the sink of lines failed
@@ -45,6 +46,7 @@ exited_by words files output k None is s = absurd (neither s.leaves.1)
     neither (inl e) = cc
     neither (inr e) = cc
 exited_by words files output k (Some (check units)) is s = absurd s.leaves.1
+exited_by words files output k (Some (gen number size)) is s = absurd s.leaves.1
 exited_by words files output k (Some (exec units image marks stack base fuel)) is s = exec_exited words files output k (record { units = units; image = image; marks = marks; stack = stack; base = base; fuel = fuel }) is s
 exited_by words files output k (Some other) is s = absurd (neither s.leaves.1)
   where
@@ -130,3 +132,49 @@ checks words files output line r a g = by (report_is words files output line r a
     by (inl e) = own e (sound_own words files output line a.own g follows a.stands.caused)
     by (inr (inl none)) = inr none
     by (inr (inr failed)) = absurd (g.worked.line_worked failed.1)
+
+-- ---- where the words are `gen`
+
+text_own : (words : List Text) (files : StoreCall) (output line : SinkCall) (number size : ℕ) (own : Report) → IsGenerating words files output line number size → IsCaused files output own → GenPuts (unit_of number size) output own → (own ≡ answer.Generated) ⊎ (own ≡ answer.NoMemory)
+text_own words files output line number size answer.Generated g caused puts = inl refl
+text_own words files output line number size answer.WriteFault g caused puts = absurd (g.worked.output_worked caused)
+text_own words files output line number size answer.NoMemory g caused puts = inr refl
+text_own words files output line number size other g caused puts = absurd puts
+
+pub generates : (words : List Text) (files : StoreCall) (output line : SinkCall) (r : Report) → Answers words files output line r → (number size : ℕ) → IsGenerating words files output line number size → (r ≡ answer.Generated) ⊎ (r ≡ answer.NoMemory)
+generates words files output line r a number size g = by (report_is words files output line r a)
+  where
+    stands : Stands (Some (gen number size)) files output a.own
+    stands = subst (λ (c : Option Form). Stands c files output a.own) g.is_command a.stands
+
+    own : (r ≡ a.own) → (a.own ≡ answer.Generated) ⊎ (a.own ≡ answer.NoMemory) → (r ≡ answer.Generated) ⊎ (r ≡ answer.NoMemory)
+    own e (inl is) = inl (e ∙ is)
+    own e (inr none) = inr (e ∙ none)
+
+    by : (r ≡ a.own) ⊎ ((r ≡ answer.NoMemory) ⊎ ((r ≡ answer.WriteFault) × SinkRose line)) → (r ≡ answer.Generated) ⊎ (r ≡ answer.NoMemory)
+    by (inl e) = own e (text_own words files output line number size a.own g stands.caused stands.leaves.1)
+    by (inr (inl none)) = inr none
+    by (inr (inr failed)) = absurd (g.worked.line_worked failed.1)
+
+generated_by : (words : List Text) (files : StoreCall) (output : SinkCall) (c : Option Form) → command_of words ≡ c → Stands c files output answer.Generated → Generated words output
+generated_by words files output None is s = absurd (neither s.leaves.1)
+  where
+    neither : (answer.Generated ≡ answer.Usage) ⊎ (answer.Generated ≡ answer.NoMemory) → ⊥
+    neither (inl e) = cc
+    neither (inr e) = cc
+generated_by words files output (Some (check units)) is s = absurd s.leaves.1
+generated_by words files output (Some (gen number size)) is s = record { number = number; size = size; is_command = is; put = s.leaves.1 }
+generated_by words files output (Some (exec units image marks stack base fuel)) is s = absurd s.leaves
+generated_by words files output (Some other) is s = absurd (neither s.leaves.1)
+  where
+    neither : (answer.Generated ≡ answer.NotBuilt) ⊎ (answer.Generated ≡ answer.NoMemory) → ⊥
+    neither (inl e) = cc
+    neither (inr e) = cc
+
+pub generated : (words : List Text) (files : StoreCall) (output line : SinkCall) (r : Report) → Answers words files output line r → r ≡ answer.Generated → Generated words output
+generated words files output line r a is = by (report_is words files output line r a)
+  where
+    by : (r ≡ a.own) ⊎ ((r ≡ answer.NoMemory) ⊎ ((r ≡ answer.WriteFault) × SinkRose line)) → Generated words output
+    by (inl own) = generated_by words files output (command_of words) refl (subst (Stands (command_of words) files output) (sym own ∙ is) a.stands)
+    by (inr (inl none)) = absurd cc
+    by (inr (inr failed)) = absurd (let e : r ≡ answer.WriteFault = failed.0 in cc)

@@ -9,14 +9,15 @@ use Rattle.flat_machine.specs.Steps.{Guest as GuestState, Goes, Ends}
 use Rattle.flat_machine.specs.Runs.{Run, flat_run}
 use Rattle.ec_words.specs.Table.{Text}
 use Rattle.ec_words.specs.Markings.{Marks}
-use Rattle.ec_words.specs.Commands.{Form, check, exec, command_of}
+use Rattle.case_gen.specs.Units.{unit_of}
+use Rattle.ec_words.specs.Commands.{Form, check, exec, gen, command_of}
 use Rattle.ec_report.specs.declared.kinds.Outcome.{Outcome}
 use Rattle.ec_report.specs.declared.kinds.Outcome.TheVariants.{Exit, Budget}
 use Rattle.ec_report.specs.declared.reports.Report.{Report}
 use Rattle.ec_report.specs.declared.reports.Report.TheVariants as answer
 use Rattle.ec_report.specs.Reports.{line_of}
 use Rattle.ec_units.specs.Verdicts.{absent, over, broken}
-use Rattle.ec_driver.specs.Courses.{Refusal, NoCommand, NotBuiltYet, BadUnits, UnknownMark, Course, Stops, Checks, Builds, course_of}
+use Rattle.ec_driver.specs.Courses.{Refusal, NoCommand, NotBuiltYet, BadUnits, UnknownMark, Course, Stops, Checks, Generates, Builds, course_of}
 
 -- a store over a call: whether its files are told, its files and its faults before and after
 pub record StoreCall : Type 0 where
@@ -64,6 +65,9 @@ Follows course answer.StoreFault = Unit {0}
 Follows course answer.NoMemory = Unit {0}
 Follows (Stops why) report = refusal_in report ≡ Some why
 Follows Checks report = report ≡ answer.Checked
+Follows (Generates text) answer.Generated = Unit {0}
+Follows (Generates text) answer.WriteFault = Unit {0}
+Follows (Generates text) other = ⊥
 Follows (Builds source) answer.NotBuilt = IsNoUnit source
 Follows (Builds source) (answer.Guest outcome) = Unit {0}
 Follows (Builds source) answer.WriteFault = Unit {0}
@@ -172,10 +176,19 @@ IsOfCheck units answer.StoreFault = Unit {0}
 IsOfCheck units answer.NoMemory = Unit {0}
 IsOfCheck units other = ⊥
 
--- what a command leaves, with each report that it may have: all but `exec` leave files and output as they are
+-- what `gen` of this text puts: all of it, or a prefix of it where the output failed
+abbrev pub GenPuts : List ℕ → SinkCall → Report → Type 0
+GenPuts text output answer.Generated = IsTrue output.told → output.after ≡ output.before ++ text
+GenPuts text output answer.WriteFault = IsTrue output.told → AppendsPrefix output.before text output.after
+GenPuts text output answer.NoMemory = output.after ≡ output.before
+GenPuts text output other = ⊥
+
+-- What a command leaves, with each report that it may have: `exec` saves an image and puts its output, `gen` puts
+-- its text, and all others leave files and output as they are.
 abbrev pub Leaves : Option Form → Course → StoreCall → SinkCall → Report → Type 0
 Leaves None course files output report = IsUntouched files output × ((report ≡ answer.Usage) ⊎ (report ≡ answer.NoMemory))
 Leaves (Some (check units)) course files output report = IsUntouched files output × IsOfCheck units report
+Leaves (Some (gen number size)) course files output report = NothingSaved files × GenPuts (unit_of number size) output report
 Leaves (Some (exec units image marks stack base fuel)) course files output report = ExecLeaves units course image fuel files output report
 Leaves (Some other) course files output report = IsUntouched files output × ((report ≡ answer.NotBuilt) ⊎ (report ≡ answer.NoMemory))
 
@@ -246,3 +259,15 @@ pub record IsSound (words : List Text) (files : StoreCall) (output line : SinkCa
   pub told : IsTrue files.told
   pub course : course_of (command_of words) files.before ≡ Checks
   pub worked : AllWorked files output line
+
+-- the words are `gen` of this number and size, and nothing failed
+pub record IsGenerating (words : List Text) (files : StoreCall) (output line : SinkCall) (number size : ℕ) : Type 0 where
+  pub is_command : command_of words ≡ Some (gen number size)
+  pub worked : AllWorked files output line
+
+-- what stands after `generated`: the words are `gen`, and the text of their numbers was put
+pub record Generated (words : List Text) (output : SinkCall) : Type 0 where
+  pub number : ℕ
+  pub size : ℕ
+  pub is_command : command_of words ≡ Some (gen number size)
+  pub put : IsTrue output.told → output.after ≡ output.before ++ unit_of number size

@@ -5,9 +5,10 @@ ghost use Rattle.ec_words.specs.Markings.{marks_of};
 ghost use Rattle.ec_words.specs.Commands.{Form, exec, command_of, form_of};
 ghost use Rattle.ec_report.specs.declared.reports.Report.{Report as ReportValue};
 ghost use Rattle.ec_report.specs.Reports.{line_of};
-ghost use Rattle.ec_driver.specs.Answers.{Answers, Stands, Tells, Exited, IsGood, IsSound};
+ghost use Rattle.ec_driver.specs.Answers.{Answers, Stands, Tells, Exited, IsGood, IsSound, IsGenerating, Generated};
 
 use crate::building::build;
+use crate::generating::generate_text;
 use crate::planning::{check, unit_to_build};
 use ec_report::{Outcome, Report, line};
 use ec_words::{Command, Marking, read_command};
@@ -27,9 +28,10 @@ struct ExecWords<'a> {
 /// Does what the words say, on a store of files, the guest's input and output, and a sink of notes, on
 /// which one line says the report.
 ///
-/// The words are a command by the rule of `ec_words`; all others are `Usage`. Two commands are built
-/// yet. `check` checks its units. `exec` checks its units too, and then compiles one unit of the first
-/// form to x64 code, saves the code and runs it; its output goes to `out`. `input` is left as it is.
+/// The words are a command by the rule of `ec_words`; all others are `Usage`. Three commands are built
+/// yet. `check` checks its units. `gen` puts the generated text of its numbers on `out`. `exec` checks
+/// its units too, and then compiles one unit of the first form to x64 code, saves the code and runs it;
+/// its output goes to `out`. `input` is left as it is.
 pub fn ecc<S: Store, I: Source, O: Sink, E: Sink>(
     alloc: Global,
     words: &[String],
@@ -51,6 +53,16 @@ pub fn ecc<S: Store, I: Source, O: Sink, E: Sink>(
         (record { told = O.tells out.old; before = O.bytes out.old; after = O.bytes out.new; faults_before = O.faults out.old; faults_after = O.faults out.new })
         (record { told = E.tells notes.old; before = E.bytes notes.old; after = E.bytes notes.new; faults_before = E.faults notes.old; faults_after = E.faults notes.new })
         → (result ≡ Report.Checked) ⊎ (result ≡ Report.NoMemory) }
+    // `gen`, and no count that rises, give `generated`, or want of memory.
+    ensures generates { (number : ℕ) (size : ℕ) → IsGenerating (map string_bytes words.now)
+        (record { told = S.tells store.old; before = S.file store.old; after = S.file store.new; faults_before = S.faults store.old; faults_after = S.faults store.new })
+        (record { told = O.tells out.old; before = O.bytes out.old; after = O.bytes out.new; faults_before = O.faults out.old; faults_after = O.faults out.new })
+        (record { told = E.tells notes.old; before = E.bytes notes.old; after = E.bytes notes.new; faults_before = E.faults notes.old; faults_after = E.faults notes.new })
+        number size
+        → (result ≡ Report.Generated) ⊎ (result ≡ Report.NoMemory) }
+    // After `generated` the text of the words' numbers was put.
+    ensures generated { result ≡ Report.Generated → Generated (map string_bytes words.now)
+        (record { told = O.tells out.old; before = O.bytes out.old; after = O.bytes out.new; faults_before = O.faults out.old; faults_after = O.faults out.new }) }
     // After `exit k` the unit, its output, its status and its saved image are what they should be.
     ensures exit { (k : ℕ) → result ≡ Report.Guest (Outcome.Exit k) → Exited (map string_bytes words.now)
         (record { told = S.tells store.old; before = S.file store.old; after = S.file store.new; faults_before = S.faults store.old; faults_after = S.faults store.new })
@@ -93,6 +105,7 @@ fn obey<S: Store, O: Sink>(alloc: Global, command: &Command, store: &mut S, out:
 {
     match command {
         Command::Check { units } => check(alloc, units, store),
+        Command::Gen { number, size } => generate_text(alloc, *number, *size, out),
         Command::Exec {
             units,
             image,

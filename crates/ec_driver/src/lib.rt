@@ -7,6 +7,7 @@
 mod building;
 mod definitions;
 mod driver;
+mod generating;
 mod planning;
 
 pub use driver::ecc;

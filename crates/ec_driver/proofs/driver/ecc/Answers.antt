@@ -1,4 +1,4 @@
-use Rattle.ec_driver.proofs.Claims.{exited, completes, checks}
+use Rattle.ec_driver.proofs.Claims.{exited, completes, checks, generates, generated}
 use Rattle.ec_driver.proofs.driver.ecc.Goals as goal
 
 pub returns-clause-answers : goal.returns-clause-answers
@@ -12,6 +12,12 @@ returns-clause-answers g c = record {
 
 pub returns-clause-checks : goal.returns-clause-checks
 returns-clause-checks g c = checks _ _ _ _ c.tell.result (returns-clause-answers g c)
+
+pub returns-clause-generates : goal.returns-clause-generates
+returns-clause-generates g c = generates _ _ _ _ c.tell.result (returns-clause-answers g c)
+
+pub returns-clause-generated : goal.returns-clause-generated
+returns-clause-generated g c = generated _ _ _ _ c.tell.result (returns-clause-answers g c)
 
 pub returns-clause-exit : goal.returns-clause-exit
 returns-clause-exit g c = exited _ _ _ _ c.tell.result (returns-clause-answers g c)
