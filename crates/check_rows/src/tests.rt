@@ -76,7 +76,7 @@ fn differing(alloc: Global, rows: &[Row]) -> Result<String, AllocError> {
 
 fn check_units(rt: &impl Abort, alloc: Global, rows: &[Row]) -> Result<(), AllocError> {
     let lines = differing(alloc, rows)?;
-    assert_eq!(rt; lines.as_str(), "");
+    assert!(rt; lines.is_empty(), "{lines}");
     Ok(())
 }
 
@@ -142,7 +142,7 @@ fn differing_programs(alloc: Global, rows: &[Program]) -> Result<String, AllocEr
 #[test]
 fn programs(rt: HostRuntime) -> Result<(), Fail> {
     let lines = differing_programs(rt.alloc(), &PROGRAMS)?;
-    assert_eq!(rt; lines.as_str(), "");
+    assert!(rt; lines.is_empty(), "{lines}");
     Ok(())
 }
 
@@ -160,6 +160,6 @@ fn differing_counts(alloc: Global, rows: &[Counted]) -> Result<String, AllocErro
 #[test]
 fn nodes(rt: HostRuntime) -> Result<(), Fail> {
     let lines = differing_counts(rt.alloc(), &COUNTED)?;
-    assert_eq!(rt; lines.as_str(), "");
+    assert!(rt; lines.is_empty(), "{lines}");
     Ok(())
 }
