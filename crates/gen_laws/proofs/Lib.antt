@@ -1,0 +1,11 @@
+pub mod BodyLaws
+pub mod DefinitionLaws
+pub mod GeneratedLaws
+pub mod LengthLaws
+pub mod LimitLaws
+pub mod ListLaws
+pub mod NameLaws
+pub mod TableLaws
+pub mod UnitLaws
+pub mod VerdictLaws
+pub mod VisitLaws
