@@ -116,7 +116,7 @@ static BUILT: [Row; 6] = [
 ];
 
 /// No image is saved.
-static OTHERS: [Row; 30] = [
+static OTHERS: [Row; 36] = [
     ("check p.c", HI, "", "checked\n", 0),
     ("check p.c q.c", HI, "", "checked\n", 0),
     ("check p.c", MUL, "", "checked\n", 0),
@@ -125,7 +125,37 @@ static OTHERS: [Row; 30] = [
     ("exec p.c -o p.img --base 65536", HI, "", "not built\n", 29),
     ("exec p.c -o p.img -m ec", HI, "", "not built\n", 29),
     ("exec p.c -o p.img -m x64,main", HI, "", "not built\n", 29),
-    ("interp none.c", HI, "", "not built\n", 29),
+    ("interp none.c", HI, "", "missing none.c\n", 27),
+    ("interp p.c q.c", HI, "Hi", "exit 7 units 27 peak 5792\n", 0),
+    (
+        "interp p.c",
+        "int main(void){return 263;}",
+        "",
+        "exit 7 units 3 peak 5408\n",
+        0,
+    ),
+    (
+        "interp p.c --fuel 2",
+        "int main(void){return 263;}",
+        "",
+        "budget units 2 peak 5408\n",
+        11,
+    ),
+    (
+        "interp p.c --fuel 1000",
+        "int main(void){while(1);return 0;}",
+        "",
+        "budget units 1000 peak 5600\n",
+        11,
+    ),
+    (
+        "interp p.c",
+        "int a[1];int main(void){return a[get_byte()];}",
+        "",
+        "trap 241 units 13 peak 5536\n",
+        10,
+    ),
+    ("interp p.c", "int f(", "", "unit 0: Syntax at 6\n", 20),
     ("compile p.c -o q", HI, "", "not built\n", 29),
     ("link p.obj -o p.img", HI, "", "not built\n", 29),
     ("build p.c -o p.img", HI, "", "not built\n", 29),

@@ -8,18 +8,18 @@ use Rattle.flat_machine.specs.Steps.{Goes, Ends}
 use Rattle.flat_machine.specs.Runs.{Run, flat_run}
 use Rattle.ec_words.specs.Table.{Text}
 use Rattle.case_gen.specs.Units.{unit_of}
-use Rattle.ec_words.specs.Commands.{Form, check, exec, gen, command_of}
+use Rattle.ec_words.specs.Commands.{Form, check, interp, exec, gen, command_of}
 use Rattle.ec_report.specs.declared.kinds.Outcome.{Outcome}
 use Rattle.ec_report.specs.declared.kinds.Outcome.TheVariants.{Exit, Budget}
 use Rattle.ec_report.specs.declared.reports.Report.{Report}
 use Rattle.ec_report.specs.declared.reports.Report.TheVariants as answer
-use Rattle.ec_driver.specs.Courses.{Course, Checks, Generates, Builds, course_of}
-use Rattle.ec_driver.specs.Answers.{StoreCall, SinkCall, SinkRose, Follows, IsCaused, HasImage, IsImage, IsOutcome, output_of, RunStands, ExecLeaves, Stands, Tells, Answers, ExecWords, exec_form, Exited, IsGood, IsSound, GenPuts, IsGenerating, Generated}
+use Rattle.ec_driver.specs.Courses.{Course, Checks, Interprets, Builds, course_of}
+use Rattle.ec_driver.specs.Answers.{StoreCall, SourceCall, SinkCall, SinkRose, Follows, IsCaused, HasImage, IsImage, IsOutcome, output_of, RunStands, ExecLeaves, Stands, Tells, Answers, ExecWords, exec_form, Exited, IsGood, IsSound, GenPuts, IsGenerating, Generated, IsReadCaused, HasRun, Interpreted, IsMeaningful, TellsMeaning}
 use Rattle.ec_driver.proofs.Ended.{image_ends, image_exits}
 
 -- the report is that of the command, or memory ran out, or the sink of lines failed
-report_is : (words : List Text) (files : StoreCall) (output line : SinkCall) (r : Report) → (a : Answers words files output line r) → (r ≡ a.own) ⊎ ((r ≡ answer.NoMemory) ⊎ ((r ≡ answer.WriteFault) × SinkRose line))
-report_is words files output line r a = by a.told_is a.tells
+report_is : (words : List Text) (files : StoreCall) (input : SourceCall) (output line : SinkCall) (r : Report) → (a : Answers words files input output line r) → (r ≡ a.own) ⊎ ((r ≡ answer.NoMemory) ⊎ ((r ≡ answer.WriteFault) × SinkRose line))
+report_is words files input output line r a = by a.told_is a.tells
   where
     by : (a.told ≡ a.own) ⊎ (a.told ≡ answer.NoMemory) → Tells a.told line r → (r ≡ a.own) ⊎ ((r ≡ answer.NoMemory) ⊎ ((r ≡ answer.WriteFault) × SinkRose line))
     by (inl own) (inl told) = inl (told.0 ∙ own)
@@ -28,8 +28,8 @@ report_is words files output line r a = by a.told_is a.tells
 
 -- ---- after `exit k`
 
-exec_exited : (words : List Text) (files : StoreCall) (output : SinkCall) (k : ℕ) (e : ExecWords) → command_of words ≡ Some (exec_form e) → Stands (Some (exec_form e)) files output (answer.Guest (Exit k)) → Exited words files output k
-exec_exited words files output k e is s =
+exec_exited : (words : List Text) (files : StoreCall) (input : SourceCall) (output : SinkCall) (k : ℕ) (e : ExecWords) → command_of words ≡ Some (exec_form e) → Stands (Some (exec_form e)) files input output (answer.Guest (Exit k)) → Exited words files output k
+exec_exited words files input output k e is s =
     let h : HasImage files (course_of (Some (exec_form e)) files.before) e.image = s.leaves.0 in
     let ran : RunStands (flat_run h.image e.fuel) output (answer.Guest (Exit k)) = s.leaves.1 in
     let ended : (flat_run h.image e.fuel).after ≡ Ends (ExitEnd k) = ran.0 in
@@ -39,26 +39,27 @@ exec_exited words files output k e is s =
     subst (λ (c : Option Form). (i : HasImage files (course_of c files.before) e.image) → k ≡ i.status % 256 → (IsTrue output.told → output.after ≡ output.before ++ output_of i.puts) → Exited words files output k) is
     (λ i status put. record { command = e; is_command = is; image = i; status = status; put = put }) h status put
 
-exited_by : (words : List Text) (files : StoreCall) (output : SinkCall) (k : ℕ) (c : Option Form) → command_of words ≡ c → Stands c files output (answer.Guest (Exit k)) → Exited words files output k
-exited_by words files output k None is s = absurd (neither s.leaves.1)
+exited_by : (words : List Text) (files : StoreCall) (input : SourceCall) (output : SinkCall) (k : ℕ) (c : Option Form) → command_of words ≡ c → Stands c files input output (answer.Guest (Exit k)) → Exited words files output k
+exited_by words files input output k None is s = absurd (neither s.leaves.1)
   where
     neither : (answer.Guest (Exit k) ≡ answer.Usage) ⊎ (answer.Guest (Exit k) ≡ answer.NoMemory) → ⊥
     neither (inl e) = cc
     neither (inr e) = cc
-exited_by words files output k (Some (check units)) is s = absurd s.leaves.1
-exited_by words files output k (Some (gen number size)) is s = absurd s.leaves.1
-exited_by words files output k (Some (exec units image marks stack base fuel)) is s = exec_exited words files output k (record { units = units; image = image; marks = marks; stack = stack; base = base; fuel = fuel }) is s
-exited_by words files output k (Some other) is s = absurd (neither s.leaves.1)
+exited_by words files input output k (Some (check units)) is s = absurd s.leaves.1
+exited_by words files input output k (Some (interp units fuel)) is s = absurd s.leaves.1
+exited_by words files input output k (Some (gen number size)) is s = absurd s.leaves.1
+exited_by words files input output k (Some (exec units image marks stack base fuel)) is s = exec_exited words files input output k (record { units = units; image = image; marks = marks; stack = stack; base = base; fuel = fuel }) is s
+exited_by words files input output k (Some other) is s = absurd (neither s.leaves.1)
   where
     neither : (answer.Guest (Exit k) ≡ answer.NotBuilt) ⊎ (answer.Guest (Exit k) ≡ answer.NoMemory) → ⊥
     neither (inl e) = cc
     neither (inr e) = cc
 
-pub exited : (words : List Text) (files : StoreCall) (output line : SinkCall) (r : Report) → Answers words files output line r → (k : ℕ) → r ≡ answer.Guest (Exit k) → Exited words files output k
-exited words files output line r a k is = by (report_is words files output line r a)
+pub exited : (words : List Text) (files : StoreCall) (input : SourceCall) (output line : SinkCall) (r : Report) → Answers words files input output line r → (k : ℕ) → r ≡ answer.Guest (Exit k) → Exited words files output k
+exited words files input output line r a k is = by (report_is words files input output line r a)
   where
     by : (r ≡ a.own) ⊎ ((r ≡ answer.NoMemory) ⊎ ((r ≡ answer.WriteFault) × SinkRose line)) → Exited words files output k
-    by (inl own) = exited_by words files output k (command_of words) refl (subst (Stands (command_of words) files output) (sym own ∙ is) a.stands)
+    by (inl own) = exited_by words files input output k (command_of words) refl (subst (Stands (command_of words) files input output) (sym own ∙ is) a.stands)
     by (inr (inl none)) = absurd cc
     by (inr (inr failed)) = absurd (let e : r ≡ answer.WriteFault = failed.0 in cc)
 
@@ -90,11 +91,11 @@ good_own words files output line puts status answer.StoreFault g course follows 
 good_own words files output line puts status answer.NotBuilt g course follows caused s = absurd (follows puts status g.reads)
 good_own words files output line puts status other g course follows caused s = absurd follows
 
-pub completes : (words : List Text) (files : StoreCall) (output line : SinkCall) (r : Report) → Answers words files output line r → (puts : List ℕ) (status : ℕ) → IsGood words files output line puts status → (r ≡ answer.Guest (Exit (status % 256))) ⊎ (r ≡ answer.NoMemory)
-completes words files output line r a puts status g = by (report_is words files output line r a)
+pub completes : (words : List Text) (files : StoreCall) (input : SourceCall) (output line : SinkCall) (r : Report) → Answers words files input output line r → (puts : List ℕ) (status : ℕ) → IsGood words files output line puts status → (r ≡ answer.Guest (Exit (status % 256))) ⊎ (r ≡ answer.NoMemory)
+completes words files input output line r a puts status g = by (report_is words files input output line r a)
   where
-    stands : Stands (Some (exec_form g.command)) files output a.own
-    stands = subst (λ (c : Option Form). Stands c files output a.own) g.is_command a.stands
+    stands : Stands (Some (exec_form g.command)) files input output a.own
+    stands = subst (λ (c : Option Form). Stands c files input output a.own) g.is_command a.stands
 
     course : course_of (Some (exec_form g.command)) files.before ≡ Builds g.source
     course = sym (ap (λ (c : Option Form). course_of c files.before) g.is_command) ∙ g.course
@@ -118,8 +119,8 @@ sound_own words files output line answer.StoreFault g follows caused = absurd (g
 sound_own words files output line answer.NoMemory g follows caused = inr refl
 sound_own words files output line other g follows caused = inl follows
 
-pub checks : (words : List Text) (files : StoreCall) (output line : SinkCall) (r : Report) → Answers words files output line r → IsSound words files output line → (r ≡ answer.Checked) ⊎ (r ≡ answer.NoMemory)
-checks words files output line r a g = by (report_is words files output line r a)
+pub checks : (words : List Text) (files : StoreCall) (input : SourceCall) (output line : SinkCall) (r : Report) → Answers words files input output line r → IsSound words files output line → (r ≡ answer.Checked) ⊎ (r ≡ answer.NoMemory)
+checks words files input output line r a g = by (report_is words files input output line r a)
   where
     follows : Follows Checks a.own
     follows = subst (λ (c : Course). Follows c a.own) g.course (a.stands.follows g.told)
@@ -141,11 +142,11 @@ text_own words files output line number size answer.WriteFault g caused puts = a
 text_own words files output line number size answer.NoMemory g caused puts = inr refl
 text_own words files output line number size other g caused puts = absurd puts
 
-pub generates : (words : List Text) (files : StoreCall) (output line : SinkCall) (r : Report) → Answers words files output line r → (number size : ℕ) → IsGenerating words files output line number size → (r ≡ answer.Generated) ⊎ (r ≡ answer.NoMemory)
-generates words files output line r a number size g = by (report_is words files output line r a)
+pub generates : (words : List Text) (files : StoreCall) (input : SourceCall) (output line : SinkCall) (r : Report) → Answers words files input output line r → (number size : ℕ) → IsGenerating words files output line number size → (r ≡ answer.Generated) ⊎ (r ≡ answer.NoMemory)
+generates words files input output line r a number size g = by (report_is words files input output line r a)
   where
-    stands : Stands (Some (gen number size)) files output a.own
-    stands = subst (λ (c : Option Form). Stands c files output a.own) g.is_command a.stands
+    stands : Stands (Some (gen number size)) files input output a.own
+    stands = subst (λ (c : Option Form). Stands c files input output a.own) g.is_command a.stands
 
     own : (r ≡ a.own) → (a.own ≡ answer.Generated) ⊎ (a.own ≡ answer.NoMemory) → (r ≡ answer.Generated) ⊎ (r ≡ answer.NoMemory)
     own e (inl is) = inl (e ∙ is)
@@ -156,25 +157,84 @@ generates words files output line r a number size g = by (report_is words files 
     by (inr (inl none)) = inr none
     by (inr (inr failed)) = absurd (g.worked.line_worked failed.1)
 
-generated_by : (words : List Text) (files : StoreCall) (output : SinkCall) (c : Option Form) → command_of words ≡ c → Stands c files output answer.Generated → Generated words output
-generated_by words files output None is s = absurd (neither s.leaves.1)
+generated_by : (words : List Text) (files : StoreCall) (input : SourceCall) (output : SinkCall) (c : Option Form) → command_of words ≡ c → Stands c files input output answer.Generated → Generated words output
+generated_by words files input output None is s = absurd (neither s.leaves.1)
   where
     neither : (answer.Generated ≡ answer.Usage) ⊎ (answer.Generated ≡ answer.NoMemory) → ⊥
     neither (inl e) = cc
     neither (inr e) = cc
-generated_by words files output (Some (check units)) is s = absurd s.leaves.1
-generated_by words files output (Some (gen number size)) is s = record { number = number; size = size; is_command = is; put = s.leaves.1 }
-generated_by words files output (Some (exec units image marks stack base fuel)) is s = absurd s.leaves
-generated_by words files output (Some other) is s = absurd (neither s.leaves.1)
+generated_by words files input output (Some (check units)) is s = absurd s.leaves.1
+generated_by words files input output (Some (interp units fuel)) is s = absurd s.leaves.1
+generated_by words files input output (Some (gen number size)) is s = record { number = number; size = size; is_command = is; put = s.leaves.1 }
+generated_by words files input output (Some (exec units image marks stack base fuel)) is s = absurd s.leaves
+generated_by words files input output (Some other) is s = absurd (neither s.leaves.1)
   where
     neither : (answer.Generated ≡ answer.NotBuilt) ⊎ (answer.Generated ≡ answer.NoMemory) → ⊥
     neither (inl e) = cc
     neither (inr e) = cc
 
-pub generated : (words : List Text) (files : StoreCall) (output line : SinkCall) (r : Report) → Answers words files output line r → r ≡ answer.Generated → Generated words output
-generated words files output line r a is = by (report_is words files output line r a)
+pub generated : (words : List Text) (files : StoreCall) (input : SourceCall) (output line : SinkCall) (r : Report) → Answers words files input output line r → r ≡ answer.Generated → Generated words output
+generated words files input output line r a is = by (report_is words files input output line r a)
   where
     by : (r ≡ a.own) ⊎ ((r ≡ answer.NoMemory) ⊎ ((r ≡ answer.WriteFault) × SinkRose line)) → Generated words output
-    by (inl own) = generated_by words files output (command_of words) refl (subst (Stands (command_of words) files output) (sym own ∙ is) a.stands)
+    by (inl own) = generated_by words files input output (command_of words) refl (subst (Stands (command_of words) files input output) (sym own ∙ is) a.stands)
+    by (inr (inl none)) = absurd cc
+    by (inr (inr failed)) = absurd (let e : r ≡ answer.WriteFault = failed.0 in cc)
+
+-- ---- where the words are `interp`
+
+meaning_own : (words : List Text) (files : StoreCall) (input : SourceCall) (output line : SinkCall) (own : Report) → (g : IsMeaningful words files input output line) → Follows (Interprets g.program) own → IsCaused files output own → IsReadCaused input own → TellsMeaning own ⊎ (own ≡ answer.NoMemory)
+meaning_own words files input output line (answer.Meant outcome units peak) g follows caused read = inl (outcome, units, peak, refl)
+meaning_own words files input output line answer.ReadFault g follows caused read = absurd (g.input_worked read)
+meaning_own words files input output line answer.WriteFault g follows caused read = absurd (g.worked.output_worked caused)
+meaning_own words files input output line answer.StoreFault g follows caused read = absurd (g.worked.store_worked caused)
+meaning_own words files input output line answer.NoMemory g follows caused read = inr refl
+meaning_own words files input output line other g follows caused read = absurd follows
+
+pub interprets : (words : List Text) (files : StoreCall) (input : SourceCall) (output line : SinkCall) (r : Report) → Answers words files input output line r → IsMeaningful words files input output line → TellsMeaning r ⊎ (r ≡ answer.NoMemory)
+interprets words files input output line r a g = by (report_is words files input output line r a)
+  where
+    follows : Follows (Interprets g.program) a.own
+    follows = subst (λ (c : Course). Follows c a.own) g.course (a.stands.follows g.told)
+
+    own : (r ≡ a.own) → TellsMeaning a.own ⊎ (a.own ≡ answer.NoMemory) → TellsMeaning r ⊎ (r ≡ answer.NoMemory)
+    own e (inl (outcome, units, peak, is)) = inl (outcome, units, peak, e ∙ is)
+    own e (inr none) = inr (e ∙ none)
+
+    by : (r ≡ a.own) ⊎ ((r ≡ answer.NoMemory) ⊎ ((r ≡ answer.WriteFault) × SinkRose line)) → TellsMeaning r ⊎ (r ≡ answer.NoMemory)
+    by (inl e) = own e (meaning_own words files input output line a.own g follows a.stands.caused a.stands.read_caused)
+    by (inr (inl none)) = inr none
+    by (inr (inr failed)) = absurd (g.worked.line_worked failed.1)
+
+told_by : (words : List Text) (files : StoreCall) (input : SourceCall) (output : SinkCall) (outcome : Outcome) (units peak : ℕ) (c : Option Form) → command_of words ≡ c → Stands c files input output (answer.Meant outcome units peak) → Interpreted words files input output outcome units peak
+told_by words files input output outcome units peak None is s = absurd (neither s.leaves.1)
+  where
+    neither : (answer.Meant outcome units peak ≡ answer.Usage) ⊎ (answer.Meant outcome units peak ≡ answer.NoMemory) → ⊥
+    neither (inl e) = cc
+    neither (inr e) = cc
+told_by words files input output outcome units peak (Some (check names)) is s = absurd s.leaves.1
+told_by words files input output outcome units peak (Some (interp names fuel)) is s =
+    let run : HasRun fuel files (course_of (Some (interp names fuel)) files.before) input output (answer.Meant outcome units peak) = s.leaves.1 in
+    record {
+      names = names;
+      fuel = fuel;
+      is_command = is;
+      program = run.program;
+      wanted = λ t. ap (λ (c : Option Form). course_of c files.before) is ∙ run.wanted t;
+      meant = run.leaves;
+    }
+told_by words files input output outcome units peak (Some (gen number size)) is s = absurd s.leaves.1
+told_by words files input output outcome units peak (Some (exec names image marks stack base fuel)) is s = absurd s.leaves
+told_by words files input output outcome units peak (Some other) is s = absurd (neither s.leaves.1)
+  where
+    neither : (answer.Meant outcome units peak ≡ answer.NotBuilt) ⊎ (answer.Meant outcome units peak ≡ answer.NoMemory) → ⊥
+    neither (inl e) = cc
+    neither (inr e) = cc
+
+pub interpreted : (words : List Text) (files : StoreCall) (input : SourceCall) (output line : SinkCall) (r : Report) → Answers words files input output line r → (outcome : Outcome) (units peak : ℕ) → r ≡ answer.Meant outcome units peak → Interpreted words files input output outcome units peak
+interpreted words files input output line r a outcome units peak is = by (report_is words files input output line r a)
+  where
+    by : (r ≡ a.own) ⊎ ((r ≡ answer.NoMemory) ⊎ ((r ≡ answer.WriteFault) × SinkRose line)) → Interpreted words files input output outcome units peak
+    by (inl own) = told_by words files input output outcome units peak (command_of words) refl (subst (Stands (command_of words) files input output) (sym own ∙ is) a.stands)
     by (inr (inl none)) = absurd cc
     by (inr (inr failed)) = absurd (let e : r ≡ answer.WriteFault = failed.0 in cc)

@@ -6,3 +6,5 @@ pub mod Later
 pub mod BuildLaws
 pub mod PlanLaws
 pub mod Claims
+mod Fuel
+mod InterpLaws

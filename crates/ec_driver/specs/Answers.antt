@@ -3,6 +3,10 @@ use Rattle.std.specs.Prelude.{◌≡◌, ℕ, ◌+◌, ◌*◌, ◌%◌, ◌≤�
 use Rattle.hx_words.specs.Counts.{Rose}
 use Rattle.hx_io.specs.Streams.{AppendsPrefix}
 use Rattle.hx_io.specs.Files.{Files, SameFiles, SameButAt, HoldsOldOrPrefix}
+use Rattle.c_program.specs.declared.program.Program.{Program}
+use Rattle.c_meaning.specs.declared.outcome.SourceEnd.{SourceEnd}
+use Rattle.c_meaning.specs.declared.outcome.SourceEnd.TheVariants as ends
+use Rattle.c_meaning.specs.Source.{Run as SourceRun, source}
 use Rattle.first_form.specs.FirstForm.{IsFirstForm}
 use Rattle.flat_machine.specs.declared.ends.RunEnd.TheVariants.{Exit as ExitEnd}
 use Rattle.flat_machine.specs.Steps.{Guest as GuestState, Goes, Ends}
@@ -10,20 +14,28 @@ use Rattle.flat_machine.specs.Runs.{Run, flat_run}
 use Rattle.ec_words.specs.Table.{Text}
 use Rattle.ec_words.specs.Markings.{Marks}
 use Rattle.case_gen.specs.Units.{unit_of}
-use Rattle.ec_words.specs.Commands.{Form, check, exec, gen, command_of}
+use Rattle.ec_words.specs.Commands.{Form, check, interp, exec, gen, command_of}
 use Rattle.ec_report.specs.declared.kinds.Outcome.{Outcome}
-use Rattle.ec_report.specs.declared.kinds.Outcome.TheVariants.{Exit, Budget}
+use Rattle.ec_report.specs.declared.kinds.Outcome.TheVariants.{Exit, Trap, Budget}
 use Rattle.ec_report.specs.declared.reports.Report.{Report}
 use Rattle.ec_report.specs.declared.reports.Report.TheVariants as answer
 use Rattle.ec_report.specs.Reports.{line_of}
 use Rattle.ec_units.specs.Verdicts.{absent, over, broken}
-use Rattle.ec_driver.specs.Courses.{Refusal, NoCommand, NotBuiltYet, BadUnits, UnknownMark, Course, Stops, Checks, Generates, Builds, course_of}
+use Rattle.ec_driver.specs.Courses.{Refusal, NoCommand, NotBuiltYet, BadUnits, UnknownMark, Course, Stops, Checks, Interprets, Generates, Builds, course_of}
 
 -- a store over a call: whether its files are told, its files and its faults before and after
 pub record StoreCall : Type 0 where
   pub told : Bool
   pub before : Files
   pub after : Files
+  pub faults_before : ℕ
+  pub faults_after : ℕ
+
+-- a source over a call: whether the bytes that it has left are told, these bytes and its faults before and after
+pub record SourceCall : Type 0 where
+  pub told : Bool
+  pub before : List ℕ
+  pub after : List ℕ
   pub faults_before : ℕ
   pub faults_after : ℕ
 
@@ -37,6 +49,9 @@ pub record SinkCall : Type 0 where
 
 abbrev pub StoreRose : StoreCall → Type 0
 StoreRose files = Rose files.faults_before files.faults_after
+
+abbrev pub SourceRose : SourceCall → Type 0
+SourceRose input = Rose input.faults_before input.faults_after
 
 abbrev pub SinkRose : SinkCall → Type 0
 SinkRose sink = Rose sink.faults_before sink.faults_after
@@ -65,6 +80,10 @@ Follows course answer.StoreFault = Unit {0}
 Follows course answer.NoMemory = Unit {0}
 Follows (Stops why) report = refusal_in report ≡ Some why
 Follows Checks report = report ≡ answer.Checked
+Follows (Interprets program) (answer.Meant outcome units peak) = Unit {0}
+Follows (Interprets program) answer.ReadFault = Unit {0}
+Follows (Interprets program) answer.WriteFault = Unit {0}
+Follows (Interprets program) other = ⊥
 Follows (Generates text) answer.Generated = Unit {0}
 Follows (Generates text) answer.WriteFault = Unit {0}
 Follows (Generates text) other = ⊥
@@ -78,6 +97,10 @@ abbrev pub IsCaused : StoreCall → SinkCall → Report → Type 0
 IsCaused files output answer.StoreFault = StoreRose files
 IsCaused files output answer.WriteFault = SinkRose output
 IsCaused files output other = Unit {0}
+
+abbrev pub IsReadCaused : SourceCall → Report → Type 0
+IsReadCaused input answer.ReadFault = SourceRose input
+IsReadCaused input other = Unit {0}
 
 -- ---- what is saved and put
 
@@ -176,6 +199,55 @@ IsOfCheck units answer.StoreFault = Unit {0}
 IsOfCheck units answer.NoMemory = Unit {0}
 IsOfCheck units other = ⊥
 
+-- how a report tells the end of a program's run by its meaning: `budget` where the units were spent
+abbrev pub outcome_of : SourceEnd → Outcome
+outcome_of (ends.Exit k) = Exit k
+outcome_of (ends.Trap k) = Trap k
+outcome_of ends.Running = Budget
+
+-- the report tells a run's end, the units that it paid and its peak; all that it puts was put, and the bytes that it
+-- takes were taken
+pub record IsMeant (run : SourceRun) (input : SourceCall) (output : SinkCall) (outcome : Outcome) (units peak : ℕ) : Type 0 where
+  pub end : outcome ≡ outcome_of run.outcome
+  pub paid : units ≡ run.units
+  pub highest : peak ≡ run.peak
+  pub put : IsTrue output.told → output.after ≡ output.before ++ run.output
+  pub taken : (gone : List ℕ) × (input.before ≡ gone ++ input.after) × (length gone ≡ run.taken)
+
+-- a run that was broken off: a prefix of its output was put, and no more was taken than it takes
+pub record IsBrokenOff (run : SourceRun) (input : SourceCall) (output : SinkCall) : Type 0 where
+  pub put : IsTrue output.told → AppendsPrefix output.before run.output output.after
+  pub taken : (gone : List ℕ) × (input.before ≡ gone ++ input.after) × (length gone ≤ run.taken)
+
+abbrev pub RunLeaves : SourceRun → SourceCall → SinkCall → Report → Type 0
+RunLeaves run input output (answer.Meant outcome units peak) = IsMeant run input output outcome units peak
+RunLeaves run input output answer.ReadFault = IsBrokenOff run input output
+RunLeaves run input output answer.WriteFault = IsBrokenOff run input output
+RunLeaves run input output answer.NoMemory = IsBrokenOff run input output
+RunLeaves run input output other = ⊥
+
+-- the program of the units was run with so many units of work, and this is left of it
+pub record HasRun (fuel : ℕ) (files : StoreCall) (course : Course) (input : SourceCall) (output : SinkCall) (report : Report) : Type 0 where
+  pub program : Program
+  pub wanted : IsTrue files.told → course ≡ Interprets program
+  pub leaves : IsTrue input.told → RunLeaves (source program input.before fuel) input output report
+
+-- nothing was put, and nothing taken
+abbrev pub NothingPassed : SourceCall → SinkCall → Type 0
+NothingPassed input output = (input.after ≡ input.before) × (output.after ≡ output.before)
+
+-- what `interp` of these units leaves of input and output
+abbrev pub InterpPasses : List Text → ℕ → Course → StoreCall → SourceCall → SinkCall → Report → Type 0
+InterpPasses units fuel course files input output (answer.Meant outcome paid peak) = HasRun fuel files course input output (answer.Meant outcome paid peak)
+InterpPasses units fuel course files input output answer.ReadFault = HasRun fuel files course input output answer.ReadFault
+InterpPasses units fuel course files input output answer.WriteFault = HasRun fuel files course input output answer.WriteFault
+InterpPasses units fuel course files input output answer.NoMemory = NothingPassed input output ⊎ HasRun fuel files course input output answer.NoMemory
+InterpPasses units fuel course files input output (answer.Missing unit) = NothingPassed input output × Contains units unit.items
+InterpPasses units fuel course files input output (answer.Limit which count) = NothingPassed input output
+InterpPasses units fuel course files input output (answer.Unit number why) = NothingPassed input output
+InterpPasses units fuel course files input output answer.StoreFault = NothingPassed input output
+InterpPasses units fuel course files input output other = ⊥
+
 -- what `gen` of this text puts: all of it, or a prefix of it where the output failed
 abbrev pub GenPuts : List ℕ → SinkCall → Report → Type 0
 GenPuts text output answer.Generated = IsTrue output.told → output.after ≡ output.before ++ text
@@ -183,20 +255,22 @@ GenPuts text output answer.WriteFault = IsTrue output.told → AppendsPrefix out
 GenPuts text output answer.NoMemory = output.after ≡ output.before
 GenPuts text output other = ⊥
 
--- What a command leaves, with each report that it may have: `exec` saves an image and puts its output, `gen` puts
--- its text, and all others leave files and output as they are.
-abbrev pub Leaves : Option Form → Course → StoreCall → SinkCall → Report → Type 0
-Leaves None course files output report = IsUntouched files output × ((report ≡ answer.Usage) ⊎ (report ≡ answer.NoMemory))
-Leaves (Some (check units)) course files output report = IsUntouched files output × IsOfCheck units report
-Leaves (Some (gen number size)) course files output report = NothingSaved files × GenPuts (unit_of number size) output report
-Leaves (Some (exec units image marks stack base fuel)) course files output report = ExecLeaves units course image fuel files output report
-Leaves (Some other) course files output report = IsUntouched files output × ((report ≡ answer.NotBuilt) ⊎ (report ≡ answer.NoMemory))
+-- What a command leaves, with each report that it may have: `exec` saves an image and puts its output, `interp`
+-- takes input and puts output, `gen` puts its text, and all others leave files and output as they are.
+abbrev pub Leaves : Option Form → Course → StoreCall → SourceCall → SinkCall → Report → Type 0
+Leaves None course files input output report = IsUntouched files output × ((report ≡ answer.Usage) ⊎ (report ≡ answer.NoMemory))
+Leaves (Some (check units)) course files input output report = IsUntouched files output × IsOfCheck units report
+Leaves (Some (interp units fuel)) course files input output report = NothingSaved files × InterpPasses units fuel course files input output report
+Leaves (Some (gen number size)) course files input output report = NothingSaved files × GenPuts (unit_of number size) output report
+Leaves (Some (exec units image marks stack base fuel)) course files input output report = ExecLeaves units course image fuel files output report
+Leaves (Some other) course files input output report = IsUntouched files output × ((report ≡ answer.NotBuilt) ⊎ (report ≡ answer.NoMemory))
 
 -- what stands after each report that a command has of its own
-pub record Stands (command : Option Form) (files : StoreCall) (output : SinkCall) (report : Report) : Type 0 where
+pub record Stands (command : Option Form) (files : StoreCall) (input : SourceCall) (output : SinkCall) (report : Report) : Type 0 where
   pub follows : IsTrue files.told → Follows (course_of command files.before) report
   pub caused : IsCaused files output report
-  pub leaves : Leaves command (course_of command files.before) files output report
+  pub read_caused : IsReadCaused input report
+  pub leaves : Leaves command (course_of command files.before) files input output report
 
 -- the line of a report was put, and the report given; or the sink of lines failed
 abbrev pub Tells : Report → SinkCall → Report → Type 0
@@ -206,9 +280,9 @@ Tells own line report =
 
 -- The command that the words are had a report of its own, which stands; what is told and given is this, or
 -- that memory for its line ran out.
-pub record Answers (words : List Text) (files : StoreCall) (output line : SinkCall) (report : Report) : Type 0 where
+pub record Answers (words : List Text) (files : StoreCall) (input : SourceCall) (output line : SinkCall) (report : Report) : Type 0 where
   pub own : Report
-  pub stands : Stands (command_of words) files output own
+  pub stands : Stands (command_of words) files input output own
   pub told : Report
   pub told_is : (told ≡ own) ⊎ (told ≡ answer.NoMemory)
   pub tells : Tells told line report
@@ -271,3 +345,34 @@ pub record Generated (words : List Text) (output : SinkCall) : Type 0 where
   pub size : ℕ
   pub is_command : command_of words ≡ Some (gen number size)
   pub put : IsTrue output.told → output.after ≡ output.before ++ unit_of number size
+
+-- the words are `interp`
+abbrev pub IsInterp : Option Form → Type 0
+IsInterp None = ⊥
+IsInterp (Some (interp units fuel)) = Unit {0}
+IsInterp (Some other) = ⊥
+
+-- What stands after a meaning was told: the words are `interp`; the program that the units are, where the store
+-- tells, was run with the units of work that the words give, or a hundred millions, on what the input had left.
+pub record Interpreted (words : List Text) (files : StoreCall) (input : SourceCall) (output : SinkCall) (outcome : Outcome) (units peak : ℕ) : Type 0 where
+  pub names : List Text
+  pub fuel : ℕ
+  pub is_command : command_of words ≡ Some (interp names fuel)
+  pub program : Program
+  pub wanted : IsTrue files.told → course_of (command_of words) files.before ≡ Interprets program
+  pub meant : IsTrue input.told → IsMeant (source program input.before fuel) input output outcome units peak
+
+-- the words are `interp`; nothing refuses the units; and nothing failed
+pub record IsMeaningful (words : List Text) (files : StoreCall) (input : SourceCall) (output line : SinkCall) : Type 0 where
+  pub names : List Text
+  pub fuel : ℕ
+  pub is_command : command_of words ≡ Some (interp names fuel)
+  pub told : IsTrue files.told
+  pub program : Program
+  pub course : course_of (command_of words) files.before ≡ Interprets program
+  pub worked : AllWorked files output line
+  pub input_worked : ¬ SourceRose input
+
+-- a meaning was told
+abbrev pub TellsMeaning : Report → Type 0
+TellsMeaning report = (outcome : Outcome) × (units : ℕ) × (peak : ℕ) × (report ≡ answer.Meant outcome units peak)

@@ -6,11 +6,12 @@
 use Rattle.std.specs.Prelude.{ℕ, Bool, true, false, ◌&&◌, ◌==◌, List, [], ◌∷◌, Option, Some, None}
 use Rattle.std.specs.List.{list_all}
 use Rattle.hx_io.specs.Files.{Files}
+use Rattle.c_program.specs.declared.program.Program.{Program}
 use Rattle.hx_names.specs.declared.pieces.Side.{Side}
 use Rattle.hx_names.specs.declared.pieces.Side.TheVariants as side
 use Rattle.ec_words.specs.Markings.{Marks, sides_from, unknown_mark}
 use Rattle.case_gen.specs.Units.{unit_of}
-use Rattle.ec_words.specs.Commands.{Form, check, exec, gen}
+use Rattle.ec_words.specs.Commands.{Form, check, interp, exec, gen}
 use Rattle.ec_units.specs.Verdicts.{Reason, Verdict, passes, refuses, verdict}
 use Rattle.ec_driver.specs.Definitions.{defined_names}
 
@@ -21,11 +22,12 @@ pub data Refusal : Type 0 where
   BadUnits : Reason → Refusal
   UnknownMark : List ℕ → Refusal
 
--- a command is refused; or it is `check` and nothing is wrong; or it is `gen`, and this text is to be put; or it
--- is `exec`, and this one unit is to be built
+-- a command is refused; or it is `check` and nothing is wrong; or it is `interp`, and this program is to be run by
+-- its meaning; or it is `gen`, and this text is to be put; or it is `exec`, and this one unit is to be built
 pub data Course : Type 0 where
   Stops : Refusal → Course
   Checks : Course
+  Interprets : Program → Course
   Generates : List ℕ → Course
   Builds : List ℕ → Course
 
@@ -60,10 +62,15 @@ abbrev pub check_course : Verdict → Course
 check_course (refuses reason) = Stops (BadUnits reason)
 check_course (passes program sources) = Checks
 
+abbrev pub interp_course : Verdict → Course
+interp_course (refuses reason) = Stops (BadUnits reason)
+interp_course (passes program sources) = Interprets program
+
 -- the course of a command
 abbrev pub course_of : Option Form → Files → Course
 course_of None files = Stops NoCommand
 course_of (Some (check units)) files = check_course (verdict files units true)
 course_of (Some (exec units image marks stack base fuel)) files = exec_course marks base (verdict files units true)
+course_of (Some (interp units fuel)) files = interp_course (verdict files units true)
 course_of (Some (gen number size)) files = Generates (unit_of number size)
 course_of (Some other) files = Stops NotBuiltYet

@@ -1,10 +1,11 @@
 -- What the calls behind `ecc` answer before anything is saved.
-use Rattle.std.specs.Prelude.{◌≡◌, ℕ, Bool, IsTrue, List, Contains, Some, None, Result, Ok, Err}
+use Rattle.std.specs.Prelude.{◌≡◌, ℕ, Bool, IsTrue, ◌≤◌, List, Contains, Option, Some, None, Result, Ok, Err}
 use Rattle.std.specs.Global.{Vec}
 use Rattle.hx_names.specs.declared.pieces.Side.{Side}
 use Rattle.first_form.specs.declared.reading.FirstUnit.{FirstUnit}
 use Rattle.first_form.specs.FirstForm.{IsFirstForm}
 use Rattle.ec_words.specs.Table.{Text}
+use Rattle.ec_words.specs.Commands.{Form, interp}
 use Rattle.ec_words.specs.Markings.{Marks, sides_from, unknown_mark}
 use Rattle.ec_report.specs.declared.reports.Report.{Report}
 use Rattle.ec_report.specs.declared.reports.Report.TheVariants as answer
@@ -60,3 +61,17 @@ PlansWhere units told course (Err report) = (IsTrue told → Follows course repo
 pub record BuildStands (course : Course) (name : List ℕ) (fuel : ℕ) (files : StoreCall) (output : SinkCall) (report : Report) : Type 0 where
   pub leaves : BuildLeaves course name fuel files output report
   pub caused : IsCaused files output report
+
+-- the reports of a program's run by its meaning
+abbrev pub IsOfRun : Report → Type 0
+IsOfRun (answer.Meant outcome units peak) = Unit {0}
+IsOfRun answer.ReadFault = Unit {0}
+IsOfRun answer.WriteFault = Unit {0}
+IsOfRun answer.NoMemory = Unit {0}
+IsOfRun other = ⊥
+
+-- the units of work that `interp` is given are at most a million millions
+abbrev pub IsWithinFuel : Option Form → Type 0
+IsWithinFuel None = Unit {0}
+IsWithinFuel (Some (interp units fuel)) = fuel ≤ 1000000000000
+IsWithinFuel (Some other) = Unit {0}

@@ -2,13 +2,16 @@
 
 ghost use Rattle.std.specs.Prelude.{◌≡◌, ◌%◌, ℕ, ◌⊎◌, List, Some, map, string_bytes};
 ghost use Rattle.ec_words.specs.Markings.{marks_of};
-ghost use Rattle.ec_words.specs.Commands.{Form, exec, command_of, form_of};
+ghost use Rattle.ec_words.specs.Commands.{exec, command_of, form_of};
+ghost use Rattle.ec_report.specs.declared.kinds.Outcome.{Outcome as OutcomeValue};
 ghost use Rattle.ec_report.specs.declared.reports.Report.{Report as ReportValue};
 ghost use Rattle.ec_report.specs.Reports.{line_of};
-ghost use Rattle.ec_driver.specs.Answers.{Answers, Stands, Tells, Exited, IsGood, IsSound, IsGenerating, Generated};
+ghost use Rattle.ec_driver.specs.Plans.{IsWithinFuel};
+ghost use Rattle.ec_driver.specs.Answers.{Answers, SourceCall, Stands, Tells, Exited, IsGood, IsSound, IsGenerating, Generated, IsInterp, Interpreted, IsMeaningful, TellsMeaning};
 
 use crate::building::build;
 use crate::generating::generate_text;
+use crate::interpreting::interpret_units;
 use crate::planning::{check, unit_to_build};
 use ec_report::{Outcome, Report, line};
 use ec_words::{Command, Marking, read_command};
@@ -28,10 +31,11 @@ struct ExecWords<'a> {
 /// Does what the words say, on a store of files, the guest's input and output, and a sink of notes, on
 /// which one line says the report.
 ///
-/// The words are a command by the rule of `ec_words`; all others are `Usage`. Three commands are built
-/// yet. `check` checks its units. `gen` puts the generated text of its numbers on `out`. `exec` checks
-/// its units too, and then compiles one unit of the first form to x64 code, saves the code and runs it;
-/// its output goes to `out`. `input` is left as it is.
+/// The words are a command by the rule of `ec_words`; all others are `Usage`. Four commands are built
+/// yet. `check` checks its units. `interp` checks them and runs the program that they are by its meaning,
+/// with `input` and `out`. `gen` puts the generated text of its numbers on `out`. `exec` checks its units
+/// too, and then compiles one unit of the first form to x64 code, saves the code and runs it; its output
+/// goes to `out`. All but `interp` leave `input` as it is.
 pub fn ecc<S: Store, I: Source, O: Sink, E: Sink>(
     alloc: Global,
     words: &[String],
@@ -44,6 +48,7 @@ pub fn ecc<S: Store, I: Source, O: Sink, E: Sink>(
     // the words, the files, the output and the line.
     ensures answers { Answers (map string_bytes words.now)
         (record { told = S.tells store.old; before = S.file store.old; after = S.file store.new; faults_before = S.faults store.old; faults_after = S.faults store.new })
+        (record { told = I.tells input.old; before = I.left input.old; after = I.left input.new; faults_before = I.faults input.old; faults_after = I.faults input.new })
         (record { told = O.tells out.old; before = O.bytes out.old; after = O.bytes out.new; faults_before = O.faults out.old; faults_after = O.faults out.new })
         (record { told = E.tells notes.old; before = E.bytes notes.old; after = E.bytes notes.new; faults_before = E.faults notes.old; faults_after = E.faults notes.new })
         result }
@@ -53,6 +58,19 @@ pub fn ecc<S: Store, I: Source, O: Sink, E: Sink>(
         (record { told = O.tells out.old; before = O.bytes out.old; after = O.bytes out.new; faults_before = O.faults out.old; faults_after = O.faults out.new })
         (record { told = E.tells notes.old; before = E.bytes notes.old; after = E.bytes notes.new; faults_before = E.faults notes.old; faults_after = E.faults notes.new })
         → (result ≡ Report.Checked) ⊎ (result ≡ Report.NoMemory) }
+    // Units that nothing refuses, and no count that rises, give a meaning, or want of memory.
+    ensures interprets { IsMeaningful (map string_bytes words.now)
+        (record { told = S.tells store.old; before = S.file store.old; after = S.file store.new; faults_before = S.faults store.old; faults_after = S.faults store.new })
+        (record { told = I.tells input.old; before = I.left input.old; after = I.left input.new; faults_before = I.faults input.old; faults_after = I.faults input.new })
+        (record { told = O.tells out.old; before = O.bytes out.old; after = O.bytes out.new; faults_before = O.faults out.old; faults_after = O.faults out.new })
+        (record { told = E.tells notes.old; before = E.bytes notes.old; after = E.bytes notes.new; faults_before = E.faults notes.old; faults_after = E.faults notes.new })
+        → TellsMeaning result ⊎ (result ≡ Report.NoMemory) }
+    // A meaning that is told is the program's, with its output and the bytes that it takes.
+    ensures interpreted { (outcome : OutcomeValue) (units : ℕ) (peak : ℕ) → result ≡ Report.Meant outcome units peak → Interpreted (map string_bytes words.now)
+        (record { told = S.tells store.old; before = S.file store.old; after = S.file store.new; faults_before = S.faults store.old; faults_after = S.faults store.new })
+        (record { told = I.tells input.old; before = I.left input.old; after = I.left input.new; faults_before = I.faults input.old; faults_after = I.faults input.new })
+        (record { told = O.tells out.old; before = O.bytes out.old; after = O.bytes out.new; faults_before = O.faults out.old; faults_after = O.faults out.new })
+        outcome units peak }
     // `gen`, and no count that rises, give `generated`, or want of memory.
     ensures generates { (number : ℕ) (size : ℕ) → IsGenerating (map string_bytes words.now)
         (record { told = S.tells store.old; before = S.file store.old; after = S.file store.new; faults_before = S.faults store.old; faults_after = S.faults store.new })
@@ -75,36 +93,56 @@ pub fn ecc<S: Store, I: Source, O: Sink, E: Sink>(
         (record { told = E.tells notes.old; before = E.bytes notes.old; after = E.bytes notes.new; faults_before = E.faults notes.old; faults_after = E.faults notes.new })
         puts status
         → (result ≡ Report.Guest (Outcome.Exit (status % 256))) ⊎ (result ≡ Report.NoMemory) }
-    ensures input { input.new ≡ input.old }
+    // Other commands leave the input as it is.
+    ensures input { (IsInterp (command_of (map string_bytes words.now)) → ⊥) → input.new ≡ input.old }
 {
-    let _ = input;
-    let own = answer(alloc, words, store, out);
+    let own = answer(alloc, words, store, input, out);
     tell(alloc, own, notes)
 }
 
 /// Does what the words say, and gives its report.
-fn answer<S: Store, O: Sink>(alloc: Global, words: &[String], store: &mut S, out: &mut O) -> Report
-    ensures { Stands (command_of (map string_bytes words.now))
+fn answer<S: Store, I: Source, O: Sink>(
+    alloc: Global,
+    words: &[String],
+    store: &mut S,
+    input: &mut I,
+    out: &mut O,
+) -> Report
+    ensures stands { Stands (command_of (map string_bytes words.now))
         (record { told = S.tells store.old; before = S.file store.old; after = S.file store.new; faults_before = S.faults store.old; faults_after = S.faults store.new })
+        (record { told = I.tells input.old; before = I.left input.old; after = I.left input.new; faults_before = I.faults input.old; faults_after = I.faults input.new })
         (record { told = O.tells out.old; before = O.bytes out.old; after = O.bytes out.new; faults_before = O.faults out.old; faults_after = O.faults out.new })
         result }
+    ensures input { (IsInterp (command_of (map string_bytes words.now)) → ⊥) → input.new ≡ input.old }
 {
     match read_command(alloc, words) {
-        Ok(Some(command)) => obey(alloc, &command, store, out),
+        Ok(Some(command)) => obey(alloc, &command, store, input, out),
         Ok(None) => Report::Usage,
         Err(AllocError) => Report::NoMemory,
     }
 }
 
 /// Does what a command says.
-fn obey<S: Store, O: Sink>(alloc: Global, command: &Command, store: &mut S, out: &mut O) -> Report
-    ensures { Stands (Some (form_of command.now))
+fn obey<S: Store, I: Source, O: Sink>(
+    alloc: Global,
+    command: &Command,
+    store: &mut S,
+    input: &mut I,
+    out: &mut O,
+) -> Report
+    requires { IsWithinFuel (Some (form_of command.now)) }
+    ensures stands { Stands (Some (form_of command.now))
         (record { told = S.tells store.old; before = S.file store.old; after = S.file store.new; faults_before = S.faults store.old; faults_after = S.faults store.new })
+        (record { told = I.tells input.old; before = I.left input.old; after = I.left input.new; faults_before = I.faults input.old; faults_after = I.faults input.new })
         (record { told = O.tells out.old; before = O.bytes out.old; after = O.bytes out.new; faults_before = O.faults out.old; faults_after = O.faults out.new })
         result }
+    ensures input { (IsInterp (Some (form_of command.now)) → ⊥) → input.new ≡ input.old }
 {
     match command {
         Command::Check { units } => check(alloc, units, store),
+        Command::Interp { units, fuel } => {
+            interpret_units(alloc, units, *fuel, store, input, out)
+        }
         Command::Gen { number, size } => generate_text(alloc, *number, *size, out),
         Command::Exec {
             units,
@@ -135,8 +173,9 @@ fn exec<S: Store, O: Sink>(
     out: &mut O,
 ) -> Report
     // Whatever the stack is: the code of a unit of the first form needs less than the least.
-    ensures { (stack : ℕ) → Stands (Some (exec (map string_bytes words.entry.units.now) words.entry.image.now (marks_of words.entry.marking.now) stack words.entry.base words.entry.fuel))
+    ensures { (stack : ℕ) (passed : SourceCall) → Stands (Some (exec (map string_bytes words.entry.units.now) words.entry.image.now (marks_of words.entry.marking.now) stack words.entry.base words.entry.fuel))
         (record { told = S.tells store.old; before = S.file store.old; after = S.file store.new; faults_before = S.faults store.old; faults_after = S.faults store.new })
+        passed
         (record { told = O.tells out.old; before = O.bytes out.old; after = O.bytes out.new; faults_before = O.faults out.old; faults_after = O.faults out.new })
         result }
 {

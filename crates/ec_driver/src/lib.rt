@@ -8,6 +8,7 @@ mod building;
 mod definitions;
 mod driver;
 mod generating;
+mod interpreting;
 mod planning;
 
 pub use driver::ecc;

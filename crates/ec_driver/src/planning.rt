@@ -25,7 +25,7 @@ use std::alloc::{AllocError, Global};
 const DEFAULT_BASE: u64 = 0x1_4000_0000;
 
 /// The report of refused units.
-fn refused(refusal: UnitsRefusal) -> Report
+pub fn refused(refusal: UnitsRefusal) -> Report
     ensures { result ≡ report_of refusal }
 {
     match refusal {

@@ -3,9 +3,8 @@ use Rattle.std.proofs.Common.{◌≡◌, ℕ, ◌≤◌, max, true, List, [], �
 use Rattle.hx_io.specs.Files.{Files}
 use Rattle.case_gen.specs.Units.{unit_of}
 use Rattle.c_program.specs.declared.program.Program.{Program}
-use Rattle.c_typing.specs.declared.faults.UnitFault.{UnitFault}
 use Rattle.c_typing.specs.Units.{typed}
-use Rattle.ec_units.specs.Verdicts.{Verdict, longest_in, judged, verdict, passes}
+use Rattle.ec_units.specs.Verdicts.{longest_in, judged, verdict, passes}
 use Rattle.gen_tokens.specs.UnitPieces.{unit_tokens}
 use Rattle.gen_tokens.proofs.UnitLaws.{reads_unit}
 use Rattle.gen_units.specs.Trees.{unit_tree}

@@ -1,6 +1,6 @@
 -- Each line of a unit is read as its item.
-use Rattle.std.proofs.Common.{◌≡◌, ℕ, zero, suc, ◌+◌, ◌≤◌, List, [], ◌∷◌, ◌++◌, Option, Some, None, refl, arith}
-use Rattle.std.specs.Prelude.{codes, decimal}
+use Rattle.std.proofs.Common.{ℕ, List, [], ◌∷◌, Some, None, refl, arith}
+use Rattle.std.specs.Prelude.{codes}
 use Rattle.c_types.specs.declared.types.Span.{Span}
 use Rattle.c_types.specs.declared.types.IntTy.TheVariants.{I32, I64, U64}
 use Rattle.c_lex.specs.declared.words.Word.TheVariants as w

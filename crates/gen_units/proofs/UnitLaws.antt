@@ -1,12 +1,10 @@
 -- The tokens of a unit are those of its tree, which is low.
-use Rattle.std.proofs.Common.{◌≡◌, ℕ, zero, suc, ◌+◌, ◌≤◌, ◌<◌, max, List, [], ◌∷◌, ◌++◌, map, length, Option, Some, None, Ok, refl, sym, ap, subst, ◌∙◌, arith, append_assoc, append-nil, add-zero, length-append, lit≤}
-use Rattle.std.specs.Prelude.{codes, decimal}
+use Rattle.std.proofs.Common.{◌≡◌, ℕ, zero, suc, ◌+◌, ◌≤◌, max, List, [], ◌∷◌, ◌++◌, map, length, Option, Some, None, Ok, refl, sym, ap, subst, ◌∙◌, arith, append_assoc, append-nil, add-zero, length-append, lit≤}
 use Rattle.std.proofs.lemmas.List.{map-append}
 use Rattle.c_lex.specs.declared.token.TokKind.{TokKind}
 use Rattle.c_lex.specs.declared.token.Token.{Token}
-use Rattle.c_tree.specs.declared.declarations.Item.{Item}
 use Rattle.c_tree.proofs.HeightLaws.{expr_heights, stmt_heights, block_item_heights, init_heights}
-use Rattle.c_tree.specs.Height.{tallest, expr_height, block_item_height, stmt_height, init_height, global_decl_height, item_height, unit_height}
+use Rattle.c_tree.specs.Height.{tallest, init_height, item_height, unit_height}
 use Rattle.parse_terms.specs.declared.terminal.Terminal.{Terminal}
 use Rattle.parse_terms.specs.TypeNames.{typedef, no_stars}
 use Rattle.parse_terms.specs.Declarators.{no_lengths, declared}
@@ -18,7 +16,7 @@ use Rattle.c_parser.specs.Answers.{answer_of}
 use Rattle.c_parser.proofs.AnswerLaws.{answer_whole}
 use Rattle.parse_terms.specs.Terminals.{terminal_of}
 use Rattle.gen_tokens.specs.Pieces.{Piece, text_of, kind_of, joined, before, tokens_at}
-use Rattle.gen_tokens.specs.UnitPieces.{Shape, Added, Multiplied, Pointed, Adjusted, shape_at, target_at, held_at, typedef_pieces, line_pieces, function_pieces, functions_pieces, entry_pieces, entries_pieces, table_head, table_end, table_pieces, main_pieces, unit_pieces, unit_tokens}
+use Rattle.gen_tokens.specs.UnitPieces.{Shape, Added, Multiplied, Pointed, Adjusted, shape_at, target_at, held_at, typedef_pieces, line_pieces, function_pieces, functions_pieces, entry_pieces, entries_pieces, table_head, table_end, table_pieces, main_pieces, unit_tokens}
 use Rattle.gen_units.specs.Trees.{line_item, function_item, entry_init, entry_inits, table_item, functions_place, function_place, main_place, items_up, main_item, unit_tree}
 use Rattle.gen_units.proofs.LineLaws.{zero_item_reads, added_item_reads, multiplied_item_reads, pointed_item_reads, adjusted_item_reads, typedef_item_reads, main_item_reads}
 

@@ -1,6 +1,6 @@
 -- The trees of the units that numbers stand for, each node at the place of its token. A tree is given the tokens of its
 -- line, counted from 0.
-use Rattle.std.specs.Prelude.{ℕ, zero, suc, ◌+◌, ◌*◌, ◌-◌, List, [], ◌∷◌, ◌++◌, length, Option, Some, None, codes, decimal}
+use Rattle.std.specs.Prelude.{ℕ, zero, suc, ◌+◌, List, [], ◌∷◌, ◌++◌, length, Some, None, codes, decimal}
 use Rattle.c_types.specs.declared.types.Span.{Span}
 use Rattle.c_types.specs.declared.types.IntTy.TheVariants.{I32, I64, U64}
 use Rattle.c_lex.specs.declared.token.Token.{Token}
@@ -26,7 +26,7 @@ use Rattle.parse_terms.specs.Declarators.{literal, decl}
 use Rattle.parse_stmt.specs.StmtGrammar.{local_decl}
 use Rattle.parse_decl.specs.Params.{param, params}
 use Rattle.parse_item.specs.ItemGrammar.{head_of, global_of, unit_of}
-use Rattle.gen_tokens.specs.Pieces.{Piece, joined, tokens_at}
+use Rattle.gen_tokens.specs.Pieces.{joined, tokens_at}
 use Rattle.gen_tokens.specs.UnitPieces.{Shape, Added, Multiplied, Pointed, Adjusted, shape_at, target_at, held_at, typedef_pieces, function_pieces, functions_pieces, entry_pieces, entries_pieces, table_head, table_pieces, main_pieces}
 
 -- the bytes of token n

@@ -1,0 +1,2 @@
+pub mod WakingLaws
+pub mod RunLaws
