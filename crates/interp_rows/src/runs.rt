@@ -1,5 +1,7 @@
 //! Runs of small programs, by hand.
 
+ghost use Rattle.std.specs.Prelude.{◌≤◌};
+
 use c_interp::{MeanFail, Meant, interpret};
 use c_meaning::SourceEnd;
 use c_program::{
@@ -147,7 +149,9 @@ fn recursive(alloc: Global) -> Result<Program, AllocError> {
     program(alloc, functions)
 }
 
-fn run(alloc: Global, p: &Program, units: u64, wanted: &[u8]) -> Result<Meant, MeanFail> {
+fn run(alloc: Global, p: &Program, units: u64, wanted: &[u8]) -> Result<Meant, MeanFail>
+    requires { units ≤ 1000000000000 }
+{
     let Ok(mut out) = MemSink::new(alloc, 100) else {
         return Err(MeanFail::NoMemory);
     };
