@@ -44,6 +44,14 @@ fn pointer(alloc: Global) -> Result<Value, AllocError> {
     }))
 }
 
+/// The number that a value is, or 99 where there is none.
+fn number_of(value: Option<&Value>) -> i128 {
+    match value {
+        Some(v) => number(v),
+        None => 99,
+    }
+}
+
 /// What `s.p = &g.f; s.a[1] = -7;` leaves in such a struct: whether `s.p` is not null and equals
 /// itself, and the elements.
 fn assigned(alloc: Global) -> Result<(bool, i128, i128), AllocError> {
@@ -56,9 +64,9 @@ fn assigned(alloc: Global) -> Result<(bool, i128, i128), AllocError> {
     if let Some(p) = find(&s, &[PathStep::Field(0)]) {
         kept = truth(p) && compare(Comparison::Equal, p, &pointer(alloc)?);
     }
-    let first = find(&s, &[PathStep::Field(1), PathStep::Element(0)]).map(number);
-    let second = find(&s, &last).map(number);
-    Ok((kept, first.unwrap_or(99), second.unwrap_or(99)))
+    let first = number_of(find(&s, &[PathStep::Field(1), PathStep::Element(0)]));
+    let second = number_of(find(&s, &last));
+    Ok((kept, first, second))
 }
 
 #[test]
