@@ -1,0 +1,5 @@
+pub mod FieldLaws
+pub mod ReadLaws
+pub mod Sizes
+pub mod Written
+pub mod ReadAllowed

@@ -1,0 +1,4 @@
+pub mod Fields
+pub mod Allowed
+pub mod Reading
+pub mod Format

@@ -1,0 +1,4 @@
+pub mod SpaceLaws
+pub mod ImportLaws
+pub mod BlockLaws
+pub mod PageLaws
