@@ -1,0 +1,4 @@
+pub mod Running
+pub mod Starting
+pub mod Ending
+pub mod Returning
