@@ -6,6 +6,8 @@ use Rattle.c_typing.specs.declared.faults.TypeKind.{TypeKind}
 use Rattle.c_typing.specs.declared.faults.TypeKind.TheVariants.{Redeclared, Unknown, Incomplete, BadType, NotValue, NotPlace, NoAddress, NotPointer, NoField, NotArray, NotInteger, NotScalar, Mismatch, NotFunction, ArgumentCount, VariadicCount, Variadic, BadInitial, Flow, BadAdjustor, Undefined, NoMain}
 use Rattle.ec_report.specs.declared.kinds.LimitKind.{LimitKind}
 use Rattle.ec_report.specs.declared.kinds.LimitKind.TheVariants.{Units, Objects, UnitBytes, AllBytes, Nodes, Functions, Parameters, Extras, StructBytes, FrameBytes, GlobalBytes, NameBytes}
+use Rattle.ec_report.specs.declared.kinds.ImageRefusal.{ImageRefusal}
+use Rattle.ec_report.specs.declared.kinds.ImageRefusal.TheVariants as image
 use Rattle.ec_report.specs.declared.kinds.LoadRefusal.{LoadRefusal}
 use Rattle.ec_report.specs.declared.kinds.LoadRefusal.TheVariants.{BadBase, UnknownImport, BadRelocation}
 
@@ -62,6 +64,28 @@ limit_name StructBytes = codes "struct-bytes"
 limit_name FrameBytes = codes "frame-bytes"
 limit_name GlobalBytes = codes "global-bytes"
 limit_name NameBytes = codes "name-bytes"
+
+-- the word for a reason why a file isn't an image
+abbrev pub image_name : ImageRefusal → List ℕ
+image_name image.TooLarge = codes "TooLarge"
+image_name image.Short = codes "Short"
+image_name image.DosMagic = codes "DosMagic"
+image_name image.PeOffset = codes "PeOffset"
+image_name image.PeMagic = codes "PeMagic"
+image_name image.Machine = codes "Machine"
+image_name image.OptionalSize = codes "OptionalSize"
+image_name image.OptionalMagic = codes "OptionalMagic"
+image_name image.Alignment = codes "Alignment"
+image_name image.ImageSize = codes "ImageSize"
+image_name image.StackSize = codes "StackSize"
+image_name image.SectionTable = codes "SectionTable"
+image_name image.SectionRange = codes "SectionRange"
+image_name image.Directory = codes "Directory"
+image_name image.Import = codes "Import"
+image_name image.BaseRelocation = codes "BaseRelocation"
+image_name image.LoadConfig = codes "LoadConfig"
+image_name image.Metadata = codes "Metadata"
+image_name image.Entry = codes "Entry"
 
 -- the word for a reason of the loader
 abbrev pub load_name : LoadRefusal → List ℕ

@@ -2,14 +2,14 @@
 -- project's own.
 use Rattle.std.specs.Prelude.{ℕ, List, [], ◌∷◌, ◌++◌, codes, false}
 use Rattle.std.specs.Fmt.{decimal, digits}
-use Rattle.ec_report.specs.Names.{why_name, type_name, limit_name, load_name}
+use Rattle.ec_report.specs.Names.{why_name, type_name, limit_name, image_name, load_name}
 use Rattle.ec_report.specs.declared.kinds.Outcome.{Outcome}
 use Rattle.ec_report.specs.declared.kinds.Outcome.TheVariants.{Exit, Trap, Budget, StackSpent, Stuck}
 use Rattle.ec_report.specs.declared.kinds.UnitRefusal.{UnitRefusal}
 use Rattle.ec_report.specs.declared.kinds.UnitRefusal.TheVariants.{BadByte, BadNumber, Unclosed, Directive, Syntax, TooDeep, Typing}
 use Rattle.ec_report.specs.declared.kinds.LimitKind.{LimitKind}
 use Rattle.ec_report.specs.declared.reports.Report.{Report}
-use Rattle.ec_report.specs.declared.reports.Report.TheVariants.{Built, Checked, Generated, Compared, Guest, Meant, Usage, Unit, Limit, Mark, Load, Missing, NotBuilt, StoreFault, ReadFault, WriteFault, NoMemory}
+use Rattle.ec_report.specs.declared.reports.Report.TheVariants.{Built, Checked, Generated, Compared, Guest, Meant, Usage, Unit, Limit, Mark, Image, Load, Missing, NotBuilt, StoreFault, ReadFault, WriteFault, NoMemory}
 
 -- the text of an outcome; the program counter is in hexadecimal, in small letters, with no leading zero
 abbrev pub outcome_text : Outcome → List ℕ
@@ -61,6 +61,7 @@ line_of Usage = codes "usage" ++ (10 ∷ [])
 line_of (Unit i refusal) = unit_line i refusal
 line_of (Limit which count) = limit_line which count
 line_of (Mark name) = named_line (codes "mark ") name.items
+line_of (Image why) = named_line (codes "image: ") (image_name why)
 line_of (Load why) = named_line (codes "load: ") (load_name why)
 line_of (Missing name) = named_line (codes "missing ") name.items
 line_of NotBuilt = codes "not built" ++ (10 ∷ [])
@@ -88,6 +89,7 @@ status_number Usage = 2
 status_number (Unit i refusal) = 20
 status_number (Limit which count) = 21
 status_number (Mark name) = 22
+status_number (Image why) = 25
 status_number (Load why) = 26
 status_number (Missing name) = 27
 status_number NotBuilt = 29

@@ -92,6 +92,49 @@ pub enum LimitKind {
     NameBytes,
 }
 
+/// Why a file isn't an image: the first of these that holds, in this order.
+#[derive(Clone, Copy, Debug, PartialEq, Eq)]
+pub enum ImageRefusal {
+    /// The file has over 134,217,728 bytes.
+    TooLarge,
+    /// The file has under 64 bytes.
+    Short,
+    /// The file doesn't begin with MZ.
+    DosMagic,
+    /// The place of the signature is no multiple of 8, or the headers pass the end.
+    PeOffset,
+    /// The signature isn't PE.
+    PeMagic,
+    /// The machine isn't x64.
+    Machine,
+    /// The optional header hasn't 240 bytes.
+    OptionalSize,
+    /// The optional header isn't PE32+.
+    OptionalMagic,
+    /// The alignments aren't 4,096 and 512.
+    Alignment,
+    /// The size of the image is 0, no multiple of 4,096, or over 128 MiB.
+    ImageSize,
+    /// The stack is no multiple of 4,096, or over 268,435,456 bytes.
+    StackSize,
+    /// There are no sections, or over 94, or their table passes the end.
+    SectionTable,
+    /// A section isn't at its place, has contents outside the file, or may be written and executed.
+    SectionRange,
+    /// There aren't 16 data directories, or one is used that isn't known or lies outside a section.
+    Directory,
+    /// The imports aren't those of one library, ecrt.dll.
+    Import,
+    /// The base relocations can't be read.
+    BaseRelocation,
+    /// There is no load configuration of 208 bytes that leads to hybrid metadata.
+    LoadConfig,
+    /// The hybrid metadata can't be read, or says what can't be of this image.
+    Metadata,
+    /// The entry point isn't x64 code.
+    Entry,
+}
+
 /// Why an image isn't loaded. Want of memory is none of these.
 #[derive(Debug, PartialEq, Eq, Drop)]
 pub enum LoadRefusal {

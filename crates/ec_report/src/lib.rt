@@ -10,7 +10,7 @@ mod lines;
 mod names;
 mod reports;
 
-pub use kinds::{LimitKind, LoadRefusal, Outcome, StuckWhy, TypeKind, UnitRefusal};
+pub use kinds::{ImageRefusal, LimitKind, LoadRefusal, Outcome, StuckWhy, TypeKind, UnitRefusal};
 pub use laws::lines_tell_statuses;
 pub use lines::line;
 pub use reports::{Report, status_of};

@@ -4,7 +4,7 @@ ghost use Rattle.std.specs.Prelude.{◌≡◌, ◌++◌, IfOk, string_bytes};
 ghost use Rattle.ec_report.specs.Reports.{outcome_text, unit_text, line_of, named_line, guest_line, meant_line, unit_line, limit_line};
 
 use crate::kinds::{LimitKind, Outcome, UnitRefusal};
-use crate::names::{limit_name, load_name, type_name, why_name};
+use crate::names::{image_name, limit_name, load_name, type_name, why_name};
 use crate::reports::Report;
 use std::alloc::{AllocError, Global};
 
@@ -100,6 +100,7 @@ pub fn line(alloc: Global, report: &Report) -> Result<Vec<u8>, AllocError>
         } => meant_line(alloc, *outcome, *units, *peak),
         Report::Unit(unit, refusal) => unit_line(alloc, *unit, *refusal),
         Report::Limit(which, count) => limit_line(alloc, *which, *count),
+        Report::Image(why) => named_line(alloc, b"image: ", image_name(*why).as_bytes()),
         Report::Load(why) => named_line(alloc, b"load: ", load_name(why).as_bytes()),
         Report::Built => Vec::from_slice(alloc, b"built\n"),
         Report::Checked => Vec::from_slice(alloc, b"checked\n"),

@@ -1,9 +1,9 @@
 //! The words of a line that stand for a kind.
 
 ghost use Rattle.std.specs.Prelude.{◌≡◌};
-ghost use Rattle.ec_report.specs.Names.{why_name, type_name, limit_name, load_name};
+ghost use Rattle.ec_report.specs.Names.{why_name, type_name, limit_name, image_name, load_name};
 
-use crate::kinds::{LimitKind, LoadRefusal, StuckWhy, TypeKind};
+use crate::kinds::{ImageRefusal, LimitKind, LoadRefusal, StuckWhy, TypeKind};
 
 /// The word for a reason of the machine.
 pub(crate) fn why_name(why: StuckWhy) -> &'static str
@@ -71,6 +71,33 @@ pub(crate) fn limit_name(which: LimitKind) -> &'static str
         LimitKind::FrameBytes => "frame-bytes",
         LimitKind::GlobalBytes => "global-bytes",
         LimitKind::NameBytes => "name-bytes",
+    }
+}
+
+/// The word for a reason why a file isn't an image.
+pub(crate) fn image_name(why: ImageRefusal) -> &'static str
+    ensures { result.now ≡ image_name why }
+{
+    match why {
+        ImageRefusal::TooLarge => "TooLarge",
+        ImageRefusal::Short => "Short",
+        ImageRefusal::DosMagic => "DosMagic",
+        ImageRefusal::PeOffset => "PeOffset",
+        ImageRefusal::PeMagic => "PeMagic",
+        ImageRefusal::Machine => "Machine",
+        ImageRefusal::OptionalSize => "OptionalSize",
+        ImageRefusal::OptionalMagic => "OptionalMagic",
+        ImageRefusal::Alignment => "Alignment",
+        ImageRefusal::ImageSize => "ImageSize",
+        ImageRefusal::StackSize => "StackSize",
+        ImageRefusal::SectionTable => "SectionTable",
+        ImageRefusal::SectionRange => "SectionRange",
+        ImageRefusal::Directory => "Directory",
+        ImageRefusal::Import => "Import",
+        ImageRefusal::BaseRelocation => "BaseRelocation",
+        ImageRefusal::LoadConfig => "LoadConfig",
+        ImageRefusal::Metadata => "Metadata",
+        ImageRefusal::Entry => "Entry",
     }
 }
 

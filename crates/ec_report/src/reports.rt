@@ -3,7 +3,7 @@
 ghost use Rattle.std.specs.Prelude.{◌≡◌};
 ghost use Rattle.ec_report.specs.Reports.{outcome_status, status_number};
 
-use crate::kinds::{LimitKind, LoadRefusal, Outcome, UnitRefusal};
+use crate::kinds::{ImageRefusal, LimitKind, LoadRefusal, Outcome, UnitRefusal};
 
 /// What a command answers.
 #[derive(Debug, PartialEq, Eq, Drop)]
@@ -32,6 +32,8 @@ pub enum Report {
     Limit(LimitKind, u64),
     /// The marking names what no unit defines.
     Mark(Vec<u8>),
+    /// The file isn't an image.
+    Image(ImageRefusal),
     /// The image isn't loaded.
     Load(LoadRefusal),
     /// The store has no file of this name.
@@ -76,6 +78,7 @@ pub fn status_of(report: &Report) -> u8
         Report::Unit(_, _) => 20,
         Report::Limit(_, _) => 21,
         Report::Mark(_) => 22,
+        Report::Image(_) => 25,
         Report::Load(_) => 26,
         Report::Missing(_) => 27,
         Report::NotBuilt => 29,

@@ -1,11 +1,7 @@
-//! Rows for the interpreter: charges, its steps, what wakes waiting work, and runs.
+//! Rows for the interpreter: charges and whole runs.
 #![tactic(auto)]
 
 #[cfg(test)]
 mod charges;
 #[cfg(test)]
-mod first_steps;
-#[cfg(test)]
 mod runs;
-#[cfg(test)]
-mod wakes;
