@@ -8,13 +8,16 @@ use Rattle.flat_machine.specs.Steps.{Goes, Ends}
 use Rattle.flat_machine.specs.Runs.{Run, flat_run}
 use Rattle.ec_words.specs.Table.{Text}
 use Rattle.case_gen.specs.Units.{unit_of}
-use Rattle.ec_words.specs.Commands.{Form, check, interp, exec, gen, command_of}
+use Rattle.ec_words.specs.Commands.{Form, check, interp, run as run_form, exec, gen, command_of}
 use Rattle.ec_report.specs.declared.kinds.Outcome.{Outcome}
 use Rattle.ec_report.specs.declared.kinds.Outcome.TheVariants.{Exit, Budget}
 use Rattle.ec_report.specs.declared.reports.Report.{Report}
 use Rattle.ec_report.specs.declared.reports.Report.TheVariants as answer
-use Rattle.ec_driver.specs.Courses.{Course, Checks, Interprets, Builds, course_of}
-use Rattle.ec_driver.specs.Answers.{StoreCall, SourceCall, SinkCall, SinkRose, Follows, IsCaused, HasImage, IsImage, IsOutcome, output_of, RunStands, ExecLeaves, Stands, Tells, Answers, ExecWords, exec_form, Exited, IsGood, IsSound, GenPuts, IsGenerating, Generated, IsReadCaused, HasRun, Interpreted, IsMeaningful, TellsMeaning}
+use Rattle.ec_driver.specs.Courses.{Course, Checks, Interprets, RunsImage, Builds, run_course, course_of}
+use Rattle.ec_driver.specs.Answers.{StoreCall, SourceCall, SinkCall, SinkRose, Follows, IsCaused, HasImage, IsImage, IsOutcome, output_of, RunStands, ExecLeaves, Stands, Tells, Answers, ExecWords, exec_form, Exited, IsGood, IsSound, GenPuts, IsGenerating, Generated, IsReadCaused, HasRun, Interpreted, IsMeaningful, TellsMeaning, IsExec, HasGuestRun, Ran, IsRunning, TellsOutcome}
+use Rattle.chpe_types.specs.declared.image.Image.{Image}
+use Rattle.image_run.specs.Courses.{ImageCourse, image_course}
+use Rattle.image_run.specs.Courses as opened
 use Rattle.ec_driver.proofs.Ended.{image_ends, image_exits}
 
 -- the report is that of the command, or memory ran out, or the sink of lines failed
@@ -39,27 +42,16 @@ exec_exited words files input output k e is s =
     subst (λ (c : Option Form). (i : HasImage files (course_of c files.before) e.image) → k ≡ i.status % 256 → (IsTrue output.told → output.after ≡ output.before ++ output_of i.puts) → Exited words files output k) is
     (λ i status put. record { command = e; is_command = is; image = i; status = status; put = put }) h status put
 
-exited_by : (words : List Text) (files : StoreCall) (input : SourceCall) (output : SinkCall) (k : ℕ) (c : Option Form) → command_of words ≡ c → Stands c files input output (answer.Guest (Exit k)) → Exited words files output k
-exited_by words files input output k None is s = absurd (neither s.leaves.1)
-  where
-    neither : (answer.Guest (Exit k) ≡ answer.Usage) ⊎ (answer.Guest (Exit k) ≡ answer.NoMemory) → ⊥
-    neither (inl e) = cc
-    neither (inr e) = cc
-exited_by words files input output k (Some (check units)) is s = absurd s.leaves.1
-exited_by words files input output k (Some (interp units fuel)) is s = absurd s.leaves.1
-exited_by words files input output k (Some (gen number size)) is s = absurd s.leaves.1
-exited_by words files input output k (Some (exec units image marks stack base fuel)) is s = exec_exited words files input output k (record { units = units; image = image; marks = marks; stack = stack; base = base; fuel = fuel }) is s
-exited_by words files input output k (Some other) is s = absurd (neither s.leaves.1)
-  where
-    neither : (answer.Guest (Exit k) ≡ answer.NotBuilt) ⊎ (answer.Guest (Exit k) ≡ answer.NoMemory) → ⊥
-    neither (inl e) = cc
-    neither (inr e) = cc
+exited_by : (words : List Text) (files : StoreCall) (input : SourceCall) (output : SinkCall) (k : ℕ) (c : Option Form) → IsExec c → command_of words ≡ c → Stands c files input output (answer.Guest (Exit k)) → Exited words files output k
+exited_by words files input output k None x is s = absurd x
+exited_by words files input output k (Some (exec units image marks stack base fuel)) x is s = exec_exited words files input output k (record { units = units; image = image; marks = marks; stack = stack; base = base; fuel = fuel }) is s
+exited_by words files input output k (Some other) x is s = absurd x
 
-pub exited : (words : List Text) (files : StoreCall) (input : SourceCall) (output line : SinkCall) (r : Report) → Answers words files input output line r → (k : ℕ) → r ≡ answer.Guest (Exit k) → Exited words files output k
-exited words files input output line r a k is = by (report_is words files input output line r a)
+pub exited : (words : List Text) (files : StoreCall) (input : SourceCall) (output line : SinkCall) (r : Report) → Answers words files input output line r → IsExec (command_of words) → (k : ℕ) → r ≡ answer.Guest (Exit k) → Exited words files output k
+exited words files input output line r a x k is = by (report_is words files input output line r a)
   where
     by : (r ≡ a.own) ⊎ ((r ≡ answer.NoMemory) ⊎ ((r ≡ answer.WriteFault) × SinkRose line)) → Exited words files output k
-    by (inl own) = exited_by words files input output k (command_of words) refl (subst (Stands (command_of words) files input output) (sym own ∙ is) a.stands)
+    by (inl own) = exited_by words files input output k (command_of words) x refl (subst (Stands (command_of words) files input output) (sym own ∙ is) a.stands)
     by (inr (inl none)) = absurd cc
     by (inr (inr failed)) = absurd (let e : r ≡ answer.WriteFault = failed.0 in cc)
 
@@ -166,6 +158,7 @@ generated_by words files input output None is s = absurd (neither s.leaves.1)
 generated_by words files input output (Some (check units)) is s = absurd s.leaves.1
 generated_by words files input output (Some (interp units fuel)) is s = absurd s.leaves.1
 generated_by words files input output (Some (gen number size)) is s = record { number = number; size = size; is_command = is; put = s.leaves.1 }
+generated_by words files input output (Some (run_form name base fuel)) is s = absurd s.leaves.1
 generated_by words files input output (Some (exec units image marks stack base fuel)) is s = absurd s.leaves
 generated_by words files input output (Some other) is s = absurd (neither s.leaves.1)
   where
@@ -223,6 +216,7 @@ told_by words files input output outcome units peak (Some (interp names fuel)) i
       wanted = λ t. ap (λ (c : Option Form). course_of c files.before) is ∙ run.wanted t;
       meant = run.leaves;
     }
+told_by words files input output outcome units peak (Some (run_form name base fuel)) is s = absurd s.leaves.1
 told_by words files input output outcome units peak (Some (gen number size)) is s = absurd s.leaves.1
 told_by words files input output outcome units peak (Some (exec names image marks stack base fuel)) is s = absurd s.leaves
 told_by words files input output outcome units peak (Some other) is s = absurd (neither s.leaves.1)
@@ -236,5 +230,55 @@ interpreted words files input output line r a outcome units peak is = by (report
   where
     by : (r ≡ a.own) ⊎ ((r ≡ answer.NoMemory) ⊎ ((r ≡ answer.WriteFault) × SinkRose line)) → Interpreted words files input output outcome units peak
     by (inl own) = told_by words files input output outcome units peak (command_of words) refl (subst (Stands (command_of words) files input output) (sym own ∙ is) a.stands)
+    by (inr (inl none)) = absurd cc
+    by (inr (inr failed)) = absurd (let e : r ≡ answer.WriteFault = failed.0 in cc)
+
+-- ---- where the words are `run`
+
+outcome_own : (words : List Text) (files : StoreCall) (input : SourceCall) (output line : SinkCall) (own : Report) → (g : IsRunning words files input output line) → Follows (RunsImage g.image) own → IsCaused files output own → IsReadCaused input own → TellsOutcome own ⊎ (own ≡ answer.NoMemory)
+outcome_own words files input output line (answer.Guest outcome) g follows caused read = inl (outcome, refl)
+outcome_own words files input output line answer.ReadFault g follows caused read = absurd (g.input_worked read)
+outcome_own words files input output line answer.WriteFault g follows caused read = absurd (g.worked.output_worked caused)
+outcome_own words files input output line answer.StoreFault g follows caused read = absurd (g.worked.store_worked caused)
+outcome_own words files input output line answer.NoMemory g follows caused read = inr refl
+outcome_own words files input output line other g follows caused read = absurd follows
+
+pub runs_images : (words : List Text) (files : StoreCall) (input : SourceCall) (output line : SinkCall) (r : Report) → Answers words files input output line r → IsRunning words files input output line → TellsOutcome r ⊎ (r ≡ answer.NoMemory)
+runs_images words files input output line r a g = by (report_is words files input output line r a)
+  where
+    course : course_of (command_of words) files.before ≡ RunsImage g.image
+    course = ap (λ (c : Option Form). course_of c files.before) g.is_command ∙ ap (run_course g.name) g.course
+
+    follows : Follows (RunsImage g.image) a.own
+    follows = subst (λ (c : Course). Follows c a.own) course (a.stands.follows g.told)
+
+    own : (r ≡ a.own) → TellsOutcome a.own ⊎ (a.own ≡ answer.NoMemory) → TellsOutcome r ⊎ (r ≡ answer.NoMemory)
+    own e (inl (outcome, is)) = inl (outcome, e ∙ is)
+    own e (inr none) = inr (e ∙ none)
+
+    by : (r ≡ a.own) ⊎ ((r ≡ answer.NoMemory) ⊎ ((r ≡ answer.WriteFault) × SinkRose line)) → TellsOutcome r ⊎ (r ≡ answer.NoMemory)
+    by (inl e) = own e (outcome_own words files input output line a.own g follows a.stands.caused a.stands.read_caused)
+    by (inr (inl none)) = inr none
+    by (inr (inr failed)) = absurd (g.worked.line_worked failed.1)
+
+runs_course : (name : Text) (course : ImageCourse) (i : Image) → run_course name course ≡ RunsImage i → course ≡ opened.runs i
+runs_course name opened.absent i e = absurd cc
+runs_course name (opened.unreadable why) i e = absurd cc
+runs_course name (opened.unloadable why) i e = absurd cc
+runs_course name (opened.runs j) i e = let same : j ≡ i = cc in ap opened.runs same
+
+run_told : (name : Text) (base fuel : ℕ) (files : StoreCall) (input : SourceCall) (output : SinkCall) (outcome : Outcome) → Stands (Some (run_form name base fuel)) files input output (answer.Guest outcome) → Ran name base fuel files input output outcome
+run_told name base fuel files input output outcome s =
+    let h : HasGuestRun base fuel files (course_of (Some (run_form name base fuel)) files.before) input output (answer.Guest outcome) = s.leaves.1 in
+    record { image = h.image; wanted = λ t. runs_course name (image_course files.before name base) h.image (h.wanted t); ran = h.leaves }
+
+pub ran : (words : List Text) (files : StoreCall) (input : SourceCall) (output line : SinkCall) (r : Report) → Answers words files input output line r → (name : Text) (base fuel : ℕ) (outcome : Outcome) → command_of words ≡ Some (run_form name base fuel) → r ≡ answer.Guest outcome → Ran name base fuel files input output outcome
+ran words files input output line r a name base fuel outcome form is = by (report_is words files input output line r a)
+  where
+    stands : r ≡ a.own → Stands (Some (run_form name base fuel)) files input output (answer.Guest outcome)
+    stands own = subst (λ (c : Option Form). Stands c files input output (answer.Guest outcome)) form (subst (Stands (command_of words) files input output) (sym own ∙ is) a.stands)
+
+    by : (r ≡ a.own) ⊎ ((r ≡ answer.NoMemory) ⊎ ((r ≡ answer.WriteFault) × SinkRose line)) → Ran name base fuel files input output outcome
+    by (inl own) = run_told name base fuel files input output outcome (stands own)
     by (inr (inl none)) = absurd cc
     by (inr (inr failed)) = absurd (let e : r ≡ answer.WriteFault = failed.0 in cc)

@@ -8,3 +8,4 @@ pub mod PlanLaws
 pub mod Claims
 mod Fuel
 mod InterpLaws
+mod ImageLaws

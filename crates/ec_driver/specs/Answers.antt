@@ -1,5 +1,5 @@
 -- What a call of `ecc` answers, and what stands after it.
-use Rattle.std.specs.Prelude.{◌≡◌, ℕ, ◌+◌, ◌*◌, ◌%◌, ◌≤◌, Bool, IsTrue, List, ◌++◌, length, map, Contains, Option, Some, None, ◌⊎◌}
+use Rattle.std.specs.Prelude.{◌≡◌, ℕ, ◌+◌, ◌*◌, ◌%◌, ◌<◌, ◌≤◌, Bool, IsTrue, List, ◌++◌, length, map, Contains, Option, Some, None, ◌⊎◌}
 use Rattle.hx_words.specs.Counts.{Rose}
 use Rattle.hx_io.specs.Streams.{AppendsPrefix}
 use Rattle.hx_io.specs.Files.{Files, SameFiles, SameButAt, HoldsOldOrPrefix}
@@ -7,6 +7,18 @@ use Rattle.c_program.specs.declared.program.Program.{Program}
 use Rattle.c_meaning.specs.declared.outcome.SourceEnd.{SourceEnd}
 use Rattle.c_meaning.specs.declared.outcome.SourceEnd.TheVariants as ends
 use Rattle.c_meaning.specs.Source.{Run as SourceRun, source}
+use Rattle.chpe_types.specs.declared.image.Image.{Image}
+use Rattle.machine_rules.specs.declared.ends.StuckWhy.{StuckWhy as MachineWhy}
+use Rattle.machine_rules.specs.declared.ends.StuckWhy.TheVariants as cause
+use Rattle.machine_rules.specs.declared.ends.GuestEnd.{GuestEnd}
+use Rattle.machine_rules.specs.declared.ends.GuestEnd.TheVariants as guest
+use Rattle.machine_rules.specs.State.{After}
+use Rattle.machine_rules.specs.State as mixed
+use Rattle.machine_rules.specs.Loads.{code_in}
+use Rattle.machine_rules.specs.Runs.{Run as MachineRun, machine}
+use Rattle.image_run.specs.Courses.{image_course, why_of, load_why}
+use Rattle.image_run.specs.Courses as opened
+use Rattle.image_run.specs.Runs.{Streams, IsGone, IsUnread, IsUnwritten}
 use Rattle.first_form.specs.FirstForm.{IsFirstForm}
 use Rattle.flat_machine.specs.declared.ends.RunEnd.TheVariants.{Exit as ExitEnd}
 use Rattle.flat_machine.specs.Steps.{Guest as GuestState, Goes, Ends}
@@ -14,14 +26,16 @@ use Rattle.flat_machine.specs.Runs.{Run, flat_run}
 use Rattle.ec_words.specs.Table.{Text}
 use Rattle.ec_words.specs.Markings.{Marks}
 use Rattle.case_gen.specs.Units.{unit_of}
-use Rattle.ec_words.specs.Commands.{Form, check, interp, exec, gen, command_of}
+use Rattle.ec_words.specs.Commands.{Form, check, interp, run as run_form, exec, gen, command_of}
 use Rattle.ec_report.specs.declared.kinds.Outcome.{Outcome}
-use Rattle.ec_report.specs.declared.kinds.Outcome.TheVariants.{Exit, Trap, Budget}
+use Rattle.ec_report.specs.declared.kinds.Outcome.TheVariants.{Exit, Trap, Budget, StackSpent, Stuck}
+use Rattle.ec_report.specs.declared.kinds.StuckWhy.{StuckWhy}
+use Rattle.ec_report.specs.declared.kinds.StuckWhy.TheVariants as stuck
 use Rattle.ec_report.specs.declared.reports.Report.{Report}
 use Rattle.ec_report.specs.declared.reports.Report.TheVariants as answer
 use Rattle.ec_report.specs.Reports.{line_of}
 use Rattle.ec_units.specs.Verdicts.{absent, over, broken}
-use Rattle.ec_driver.specs.Courses.{Refusal, NoCommand, NotBuiltYet, BadUnits, UnknownMark, Course, Stops, Checks, Interprets, Generates, Builds, course_of}
+use Rattle.ec_driver.specs.Courses.{Refusal, NoCommand, NotBuiltYet, BadFiles, UnknownMark, NoImage, NotLoaded, Course, Stops, Checks, Interprets, RunsImage, Generates, Builds, course_of}
 
 -- a store over a call: whether its files are told, its files and its faults before and after
 pub record StoreCall : Type 0 where
@@ -66,10 +80,12 @@ IsNoUnit source = (puts : List ℕ) (status : ℕ) → ¬ IsFirstForm puts statu
 abbrev pub refusal_in : Report → Option Refusal
 refusal_in answer.Usage = Some NoCommand
 refusal_in answer.NotBuilt = Some NotBuiltYet
-refusal_in (answer.Missing name) = Some (BadUnits (absent name.items))
-refusal_in (answer.Limit which count) = Some (BadUnits (over which count))
-refusal_in (answer.Unit number why) = Some (BadUnits (broken number why))
+refusal_in (answer.Missing name) = Some (BadFiles (absent name.items))
+refusal_in (answer.Limit which count) = Some (BadFiles (over which count))
+refusal_in (answer.Unit number why) = Some (BadFiles (broken number why))
 refusal_in (answer.Mark name) = Some (UnknownMark name.items)
+refusal_in (answer.Image why) = Some (NoImage (why_of why))
+refusal_in (answer.Load why) = Some (NotLoaded (load_why why))
 refusal_in other = None
 
 -- What the report of a command is, by its course. A unit that is to be built and isn't of the first form
@@ -84,6 +100,10 @@ Follows (Interprets program) (answer.Meant outcome units peak) = Unit {0}
 Follows (Interprets program) answer.ReadFault = Unit {0}
 Follows (Interprets program) answer.WriteFault = Unit {0}
 Follows (Interprets program) other = ⊥
+Follows (RunsImage image) (answer.Guest outcome) = Unit {0}
+Follows (RunsImage image) answer.ReadFault = Unit {0}
+Follows (RunsImage image) answer.WriteFault = Unit {0}
+Follows (RunsImage image) other = ⊥
 Follows (Generates text) answer.Generated = Unit {0}
 Follows (Generates text) answer.WriteFault = Unit {0}
 Follows (Generates text) other = ⊥
@@ -248,6 +268,69 @@ InterpPasses units fuel course files input output (answer.Unit number why) = Not
 InterpPasses units fuel course files input output answer.StoreFault = NothingPassed input output
 InterpPasses units fuel course files input output other = ⊥
 
+-- ---- the run of an image
+
+-- how a report tells why the machine is stuck, how a guest ended, and what a run came to: `budget` where the machine
+-- goes on
+abbrev pub told_why : MachineWhy → StuckWhy
+told_why cause.NoRange = stuck.NoRange
+told_why cause.Misaligned = stuck.Misaligned
+told_why cause.BadInstruction = stuck.BadInstruction
+told_why cause.Blocked = stuck.Blocked
+told_why cause.Unmapped = stuck.Unmapped
+told_why cause.Protected = stuck.Protected
+told_why cause.Divide = stuck.Divide
+told_why cause.Halt = stuck.Halt
+told_why cause.BadSwitch = stuck.BadSwitch
+told_why cause.NoThunk = stuck.NoThunk
+told_why cause.BadTarget = stuck.BadTarget
+
+abbrev pub told_guest : GuestEnd → Outcome
+told_guest (guest.Exit k) = Exit k
+told_guest (guest.Trap k) = Trap k
+told_guest guest.StackSpent = StackSpent
+told_guest (guest.Stuck reason pc) = Stuck (told_why reason) pc
+
+abbrev pub told_after : After → Outcome
+told_after (mixed.Goes m) = Budget
+told_after (mixed.Ends end m) = told_guest end
+
+abbrev pub streams_of : SourceCall → SinkCall → Streams
+streams_of input output = record { left = input.before; rest = input.after; told = output.told; old = output.before; new = output.after }
+
+-- the report tells what a run of the machine came to; all that it puts was put, and the bytes that it takes were taken
+pub record IsGuestRun (run : MachineRun) (s : Streams) (outcome : Outcome) : Type 0 where
+  pub end : outcome ≡ told_after run.after
+  pub put : IsTrue s.told → s.new ≡ s.old ++ run.output
+  pub gone : IsGone run s
+
+-- what a run of an image at a base leaves; one that the outside broke off made fewer steps
+abbrev pub GuestLeaves : Image → ℕ → ℕ → Streams → Report → Type 0
+GuestLeaves i base fuel s (answer.Guest outcome) = IsGuestRun (machine i base s.left fuel) s outcome
+GuestLeaves i base fuel s answer.ReadFault = (k : ℕ) × (k < fuel) × IsUnread (machine i base s.left k) s
+GuestLeaves i base fuel s answer.WriteFault = (k : ℕ) × (k < fuel) × IsUnwritten (code_in i base) (machine i base s.left k) s
+GuestLeaves i base fuel s other = ⊥
+
+-- the image of the file was run at this base with so many steps, and this is left of it
+pub record HasGuestRun (base fuel : ℕ) (files : StoreCall) (course : Course) (input : SourceCall) (output : SinkCall) (report : Report) : Type 0 where
+  pub image : Image
+  pub wanted : IsTrue files.told → course ≡ RunsImage image
+  pub leaves : IsTrue input.told → GuestLeaves image base fuel (streams_of input output) report
+
+-- what `run` of the image of this name leaves of input and output
+abbrev pub RunPasses : Text → ℕ → ℕ → Course → StoreCall → SourceCall → SinkCall → Report → Type 0
+RunPasses name base fuel course files input output (answer.Guest outcome) = HasGuestRun base fuel files course input output (answer.Guest outcome)
+RunPasses name base fuel course files input output answer.ReadFault = HasGuestRun base fuel files course input output answer.ReadFault
+RunPasses name base fuel course files input output answer.WriteFault = HasGuestRun base fuel files course input output answer.WriteFault
+RunPasses name base fuel course files input output (answer.Missing file) = NothingPassed input output × (file.items ≡ name)
+RunPasses name base fuel course files input output (answer.Image why) = NothingPassed input output
+RunPasses name base fuel course files input output (answer.Load why) = NothingPassed input output
+RunPasses name base fuel course files input output answer.StoreFault = NothingPassed input output
+RunPasses name base fuel course files input output answer.NoMemory = NothingPassed input output
+RunPasses name base fuel course files input output other = ⊥
+
+-- ---- what commands leave
+
 -- what `gen` of this text puts: all of it, or a prefix of it where the output failed
 abbrev pub GenPuts : List ℕ → SinkCall → Report → Type 0
 GenPuts text output answer.Generated = IsTrue output.told → output.after ≡ output.before ++ text
@@ -256,11 +339,12 @@ GenPuts text output answer.NoMemory = output.after ≡ output.before
 GenPuts text output other = ⊥
 
 -- What a command leaves, with each report that it may have: `exec` saves an image and puts its output, `interp`
--- takes input and puts output, `gen` puts its text, and all others leave files and output as they are.
+-- and `run` take input and put output, `gen` puts its text, and all others leave files and output as they are.
 abbrev pub Leaves : Option Form → Course → StoreCall → SourceCall → SinkCall → Report → Type 0
 Leaves None course files input output report = IsUntouched files output × ((report ≡ answer.Usage) ⊎ (report ≡ answer.NoMemory))
 Leaves (Some (check units)) course files input output report = IsUntouched files output × IsOfCheck units report
 Leaves (Some (interp units fuel)) course files input output report = NothingSaved files × InterpPasses units fuel course files input output report
+Leaves (Some (run_form name base fuel)) course files input output report = NothingSaved files × RunPasses name base fuel course files input output report
 Leaves (Some (gen number size)) course files input output report = NothingSaved files × GenPuts (unit_of number size) output report
 Leaves (Some (exec units image marks stack base fuel)) course files input output report = ExecLeaves units course image fuel files output report
 Leaves (Some other) course files input output report = IsUntouched files output × ((report ≡ answer.NotBuilt) ⊎ (report ≡ answer.NoMemory))
@@ -346,11 +430,18 @@ pub record Generated (words : List Text) (output : SinkCall) : Type 0 where
   pub is_command : command_of words ≡ Some (gen number size)
   pub put : IsTrue output.told → output.after ≡ output.before ++ unit_of number size
 
--- the words are `interp`
-abbrev pub IsInterp : Option Form → Type 0
-IsInterp None = ⊥
-IsInterp (Some (interp units fuel)) = Unit {0}
-IsInterp (Some other) = ⊥
+-- the words are `exec`
+abbrev pub IsExec : Option Form → Type 0
+IsExec None = ⊥
+IsExec (Some (exec units image marks stack base fuel)) = Unit {0}
+IsExec (Some other) = ⊥
+
+-- the words are of a command that takes input
+abbrev pub TakesInput : Option Form → Type 0
+TakesInput None = ⊥
+TakesInput (Some (interp units fuel)) = Unit {0}
+TakesInput (Some (run_form name base fuel)) = Unit {0}
+TakesInput (Some other) = ⊥
 
 -- What stands after a meaning was told: the words are `interp`; the program that the units are, where the store
 -- tells, was run with the units of work that the words give, or a hundred millions, on what the input had left.
@@ -376,3 +467,26 @@ pub record IsMeaningful (words : List Text) (files : StoreCall) (input : SourceC
 -- a meaning was told
 abbrev pub TellsMeaning : Report → Type 0
 TellsMeaning report = (outcome : Outcome) × (units : ℕ) × (peak : ℕ) × (report ≡ answer.Meant outcome units peak)
+
+-- What stands after `run` told how its guest ended: the image that the file is, where the store tells, was run at the base
+-- with so many steps, on what the input had left.
+pub record Ran (name : Text) (base fuel : ℕ) (files : StoreCall) (input : SourceCall) (output : SinkCall) (outcome : Outcome) : Type 0 where
+  pub image : Image
+  pub wanted : IsTrue files.told → image_course files.before name base ≡ opened.runs image
+  pub ran : IsTrue input.told → IsGuestRun (machine image base input.before fuel) (streams_of input output) outcome
+
+-- the words are `run`; its file is an image that can be loaded at the base; and nothing failed
+pub record IsRunning (words : List Text) (files : StoreCall) (input : SourceCall) (output line : SinkCall) : Type 0 where
+  pub name : Text
+  pub base : ℕ
+  pub fuel : ℕ
+  pub is_command : command_of words ≡ Some (run_form name base fuel)
+  pub told : IsTrue files.told
+  pub image : Image
+  pub course : image_course files.before name base ≡ opened.runs image
+  pub worked : AllWorked files output line
+  pub input_worked : ¬ SourceRose input
+
+-- an end of a guest was told
+abbrev pub TellsOutcome : Report → Type 0
+TellsOutcome report = (outcome : Outcome) × (report ≡ answer.Guest outcome)

@@ -11,8 +11,13 @@ use Rattle.ec_report.specs.declared.reports.Report.{Report}
 use Rattle.ec_report.specs.declared.reports.Report.TheVariants as answer
 use Rattle.ec_units.specs.declared.refusals.UnitsRefusal.{UnitsRefusal}
 use Rattle.ec_units.specs.declared.refusals.UnitsRefusal.TheVariants as refusal
+use Rattle.machine_rules.specs.declared.ends.RunEnd.{RunEnd}
+use Rattle.machine_rules.specs.declared.ends.RunEnd.TheVariants as ends
+use Rattle.image_run.specs.declared.refusal.RunRefusal.{RunRefusal}
+use Rattle.image_run.specs.declared.refusal.RunRefusal.TheVariants as unrun
+use Rattle.ec_report.specs.declared.kinds.Outcome.TheVariants.{Exit, Trap, Budget, StackSpent, Stuck}
 use Rattle.ec_driver.specs.Courses.{Course, Builds}
-use Rattle.ec_driver.specs.Answers.{StoreCall, SinkCall, Follows, IsCaused, BuildLeaves}
+use Rattle.ec_driver.specs.Answers.{StoreCall, SinkCall, Follows, IsCaused, BuildLeaves, told_why}
 
 -- the report of refused units
 abbrev pub report_of : UnitsRefusal → Report
@@ -75,3 +80,27 @@ abbrev pub IsWithinFuel : Option Form → Type 0
 IsWithinFuel None = Unit {0}
 IsWithinFuel (Some (interp units fuel)) = fuel ≤ 1000000000000
 IsWithinFuel (Some other) = Unit {0}
+
+-- the report of how the run of an image ended
+abbrev pub report_of_end : RunEnd → Report
+report_of_end (ends.Exit k) = answer.Guest (Exit k)
+report_of_end (ends.Trap k) = answer.Guest (Trap k)
+report_of_end ends.Budget = answer.Guest Budget
+report_of_end ends.StackSpent = answer.Guest StackSpent
+report_of_end (ends.Stuck reason pc) = answer.Guest (Stuck (told_why reason) pc)
+report_of_end ends.ReadFault = answer.ReadFault
+report_of_end ends.WriteFault = answer.WriteFault
+
+-- the report that there is no file of the name, or that memory for this ran out
+abbrev pub NamesFile : Text → Report → Type 0
+NamesFile name (answer.Missing file) = file.items ≡ name
+NamesFile name answer.NoMemory = Unit {0}
+NamesFile name other = ⊥
+
+-- the report of an image that isn't run
+abbrev pub TellsRefusal : Text → RunRefusal → Report → Type 0
+TellsRefusal name unrun.Missing report = NamesFile name report
+TellsRefusal name unrun.StoreFault report = report ≡ answer.StoreFault
+TellsRefusal name (unrun.Image why) report = report ≡ answer.Image why
+TellsRefusal name (unrun.Load why) report = report ≡ answer.Load why
+TellsRefusal name unrun.NoMemory report = report ≡ answer.NoMemory

@@ -2,17 +2,18 @@
 
 ghost use Rattle.std.specs.Prelude.{◌≡◌, ◌%◌, ℕ, ◌⊎◌, List, Some, map, string_bytes};
 ghost use Rattle.ec_words.specs.Markings.{marks_of};
-ghost use Rattle.ec_words.specs.Commands.{exec, command_of, form_of};
+ghost use Rattle.ec_words.specs.Commands.{exec, run, command_of, form_of};
 ghost use Rattle.ec_report.specs.declared.kinds.Outcome.{Outcome as OutcomeValue};
 ghost use Rattle.ec_report.specs.declared.reports.Report.{Report as ReportValue};
 ghost use Rattle.ec_report.specs.Reports.{line_of};
 ghost use Rattle.ec_driver.specs.Plans.{IsWithinFuel};
-ghost use Rattle.ec_driver.specs.Answers.{Answers, SourceCall, Stands, Tells, Exited, IsGood, IsSound, IsGenerating, Generated, IsInterp, Interpreted, IsMeaningful, TellsMeaning};
+ghost use Rattle.ec_driver.specs.Answers.{Answers, SourceCall, Stands, Tells, Exited, IsGood, IsSound, IsGenerating, Generated, TakesInput, Interpreted, IsMeaningful, TellsMeaning, IsExec, IsRunning, Ran, TellsOutcome};
 
 use crate::building::build;
 use crate::generating::generate_text;
 use crate::interpreting::interpret_units;
 use crate::planning::{check, unit_to_build};
+use crate::running::run_image;
 use ec_report::{Outcome, Report, line};
 use ec_words::{Command, Marking, read_command};
 use hx_io::{Sink, Source, Store};
@@ -31,11 +32,11 @@ struct ExecWords<'a> {
 /// Does what the words say, on a store of files, the guest's input and output, and a sink of notes, on
 /// which one line says the report.
 ///
-/// The words are a command by the rule of `ec_words`; all others are `Usage`. Four commands are built
+/// The words are a command by the rule of `ec_words`; all others are `Usage`. Five commands are built
 /// yet. `check` checks its units. `interp` checks them and runs the program that they are by its meaning,
-/// with `input` and `out`. `gen` puts the generated text of its numbers on `out`. `exec` checks its units
+/// with `input` and `out`. `run` loads an image and runs it, with these too. `gen` puts the generated text of its numbers on `out`. `exec` checks its units
 /// too, and then compiles one unit of the first form to x64 code, saves the code and runs it; its output
-/// goes to `out`. All but `interp` leave `input` as it is.
+/// goes to `out`. All but `interp` and `run` leave `input` as it is.
 pub fn ecc<S: Store, I: Source, O: Sink, E: Sink>(
     alloc: Global,
     words: &[String],
@@ -71,6 +72,20 @@ pub fn ecc<S: Store, I: Source, O: Sink, E: Sink>(
         (record { told = I.tells input.old; before = I.left input.old; after = I.left input.new; faults_before = I.faults input.old; faults_after = I.faults input.new })
         (record { told = O.tells out.old; before = O.bytes out.old; after = O.bytes out.new; faults_before = O.faults out.old; faults_after = O.faults out.new })
         outcome units peak }
+    // `run` of an image that can be loaded at its base, and no count that rises, give an end of the guest, or want of
+    // memory.
+    ensures runs { IsRunning (map string_bytes words.now)
+        (record { told = S.tells store.old; before = S.file store.old; after = S.file store.new; faults_before = S.faults store.old; faults_after = S.faults store.new })
+        (record { told = I.tells input.old; before = I.left input.old; after = I.left input.new; faults_before = I.faults input.old; faults_after = I.faults input.new })
+        (record { told = O.tells out.old; before = O.bytes out.old; after = O.bytes out.new; faults_before = O.faults out.old; faults_after = O.faults out.new })
+        (record { told = E.tells notes.old; before = E.bytes notes.old; after = E.bytes notes.new; faults_before = E.faults notes.old; faults_after = E.faults notes.new })
+        → TellsOutcome result ⊎ (result ≡ Report.NoMemory) }
+    // An end that `run` tells is that of the machine's run of the image, with its output and the bytes that it takes.
+    ensures ran { (name : List ℕ) (base : ℕ) (fuel : ℕ) (outcome : OutcomeValue) → command_of (map string_bytes words.now) ≡ Some (run name base fuel) → result ≡ Report.Guest outcome → Ran name base fuel
+        (record { told = S.tells store.old; before = S.file store.old; after = S.file store.new; faults_before = S.faults store.old; faults_after = S.faults store.new })
+        (record { told = I.tells input.old; before = I.left input.old; after = I.left input.new; faults_before = I.faults input.old; faults_after = I.faults input.new })
+        (record { told = O.tells out.old; before = O.bytes out.old; after = O.bytes out.new; faults_before = O.faults out.old; faults_after = O.faults out.new })
+        outcome }
     // `gen`, and no count that rises, give `generated`, or want of memory.
     ensures generates { (number : ℕ) (size : ℕ) → IsGenerating (map string_bytes words.now)
         (record { told = S.tells store.old; before = S.file store.old; after = S.file store.new; faults_before = S.faults store.old; faults_after = S.faults store.new })
@@ -81,8 +96,8 @@ pub fn ecc<S: Store, I: Source, O: Sink, E: Sink>(
     // After `generated` the text of the words' numbers was put.
     ensures generated { result ≡ Report.Generated → Generated (map string_bytes words.now)
         (record { told = O.tells out.old; before = O.bytes out.old; after = O.bytes out.new; faults_before = O.faults out.old; faults_after = O.faults out.new }) }
-    // After `exit k` the unit, its output, its status and its saved image are what they should be.
-    ensures exit { (k : ℕ) → result ≡ Report.Guest (Outcome.Exit k) → Exited (map string_bytes words.now)
+    // After `exit k` of `exec` the unit, its output, its status and its saved image are what they should be.
+    ensures exit { IsExec (command_of (map string_bytes words.now)) → (k : ℕ) → result ≡ Report.Guest (Outcome.Exit k) → Exited (map string_bytes words.now)
         (record { told = S.tells store.old; before = S.file store.old; after = S.file store.new; faults_before = S.faults store.old; faults_after = S.faults store.new })
         (record { told = O.tells out.old; before = O.bytes out.old; after = O.bytes out.new; faults_before = O.faults out.old; faults_after = O.faults out.new })
         k }
@@ -94,7 +109,7 @@ pub fn ecc<S: Store, I: Source, O: Sink, E: Sink>(
         puts status
         → (result ≡ Report.Guest (Outcome.Exit (status % 256))) ⊎ (result ≡ Report.NoMemory) }
     // Other commands leave the input as it is.
-    ensures input { (IsInterp (command_of (map string_bytes words.now)) → ⊥) → input.new ≡ input.old }
+    ensures input { (TakesInput (command_of (map string_bytes words.now)) → ⊥) → input.new ≡ input.old }
 {
     let own = answer(alloc, words, store, input, out);
     tell(alloc, own, notes)
@@ -113,7 +128,7 @@ fn answer<S: Store, I: Source, O: Sink>(
         (record { told = I.tells input.old; before = I.left input.old; after = I.left input.new; faults_before = I.faults input.old; faults_after = I.faults input.new })
         (record { told = O.tells out.old; before = O.bytes out.old; after = O.bytes out.new; faults_before = O.faults out.old; faults_after = O.faults out.new })
         result }
-    ensures input { (IsInterp (command_of (map string_bytes words.now)) → ⊥) → input.new ≡ input.old }
+    ensures input { (TakesInput (command_of (map string_bytes words.now)) → ⊥) → input.new ≡ input.old }
 {
     match read_command(alloc, words) {
         Ok(Some(command)) => obey(alloc, &command, store, input, out),
@@ -136,12 +151,15 @@ fn obey<S: Store, I: Source, O: Sink>(
         (record { told = I.tells input.old; before = I.left input.old; after = I.left input.new; faults_before = I.faults input.old; faults_after = I.faults input.new })
         (record { told = O.tells out.old; before = O.bytes out.old; after = O.bytes out.new; faults_before = O.faults out.old; faults_after = O.faults out.new })
         result }
-    ensures input { (IsInterp (Some (form_of command.now)) → ⊥) → input.new ≡ input.old }
+    ensures input { (TakesInput (Some (form_of command.now)) → ⊥) → input.new ≡ input.old }
 {
     match command {
         Command::Check { units } => check(alloc, units, store),
         Command::Interp { units, fuel } => {
             interpret_units(alloc, units, *fuel, store, input, out)
+        }
+        Command::Run { image, base, fuel } => {
+            run_image(alloc, image, *base, *fuel, store, input, out)
         }
         Command::Gen { number, size } => generate_text(alloc, *number, *size, out),
         Command::Exec {

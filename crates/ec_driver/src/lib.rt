@@ -10,6 +10,7 @@ mod driver;
 mod generating;
 mod interpreting;
 mod planning;
+mod running;
 
 pub use driver::ecc;
 pub use ec_report::{Outcome, Report, status_of};

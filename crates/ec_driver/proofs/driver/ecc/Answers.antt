@@ -1,4 +1,4 @@
-use Rattle.ec_driver.proofs.Claims.{exited, completes, checks, generates, generated, interprets, interpreted}
+use Rattle.ec_driver.proofs.Claims.{exited, completes, checks, generates, generated, interprets, interpreted, runs_images, ran}
 use Rattle.ec_driver.proofs.driver.ecc.Goals as goal
 
 pub returns-clause-answers : goal.returns-clause-answers
@@ -30,3 +30,9 @@ returns-clause-exit g c = exited _ _ _ _ _ c.tell.result (returns-clause-answers
 
 pub returns-clause-completes : goal.returns-clause-completes
 returns-clause-completes g c = completes _ _ _ _ _ c.tell.result (returns-clause-answers g c)
+
+pub returns-clause-runs : goal.returns-clause-runs
+returns-clause-runs g c = runs_images _ _ _ _ _ c.tell.result (returns-clause-answers g c)
+
+pub returns-clause-ran : goal.returns-clause-ran
+returns-clause-ran g c = ran _ _ _ _ _ c.tell.result (returns-clause-answers g c)
