@@ -1,7 +1,7 @@
 //! The command over objects in memory, with answers worked out by hand.
 
 use ec_driver::{ecc, status_of};
-use hx_io::{FailSink, FailStore, MemSink, MemSource, MemStore, Store};
+use hx_io::{FailSink, FailSource, FailStore, MemSink, MemSource, MemStore, Store};
 use std::process::Abort;
 use std::test::Fail;
 
@@ -57,7 +57,7 @@ fn runs<R: Abort + AllocGlobal>(
     files_held.save(alloc, "p.c", unit)?;
     files_held.save(alloc, "q.c", b"int g;")?;
     let mut store = FailStore::new(files_held, Vec::from_slice(alloc, fails.store)?);
-    let mut input = MemSource::new(Vec::new(alloc));
+    let mut input = FailSource::new(MemSource::new(Vec::new(alloc)), Vec::new(alloc));
     let mut out = FailSink::new(
         MemSink::new(alloc, 512)?,
         Vec::from_slice(alloc, fails.out)?,
@@ -159,7 +159,7 @@ static OTHERS: [Row; 36] = [
     ("compile p.c -o q", HI, "", "not built\n", 29),
     ("link p.obj -o p.img", HI, "", "not built\n", 29),
     ("build p.c -o p.img", HI, "", "not built\n", 29),
-    ("run p.img", HI, "", "not built\n", 29),
+    ("run p.img", HI, "", "missing p.img\n", 27),
     ("gen 1 --size 1", HI, GENERATED, "generated\n", 0),
     ("many 1 -o p", HI, "", "not built\n", 29),
     ("exec p.c -o p.img -m x64,sub", MUL, "", "mark sub\n", 22),

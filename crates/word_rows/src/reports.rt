@@ -1,7 +1,7 @@
 //! Lines and statuses, written out by hand.
 
 use ec_report::{
-    LimitKind, LoadRefusal, Outcome, Report, StuckWhy, TypeKind, UnitRefusal, line, status_of,
+    ImageRefusal, LimitKind, LoadRefusal, Outcome, Report, StuckWhy, TypeKind, UnitRefusal, line, status_of,
 };
 use std::process::Abort;
 use std::test::Fail;
@@ -74,6 +74,36 @@ fn refusals_of_units(rt: HostRuntime) -> Result<(), Fail> {
         ),
     ] {
         told(&rt, Report::Unit(unit, refusal), text, 20)?;
+    }
+    Ok(())
+}
+
+static IMAGES: [(ImageRefusal, &str); 19] = [
+    (ImageRefusal::TooLarge, "image: TooLarge\n"),
+    (ImageRefusal::Short, "image: Short\n"),
+    (ImageRefusal::DosMagic, "image: DosMagic\n"),
+    (ImageRefusal::PeOffset, "image: PeOffset\n"),
+    (ImageRefusal::PeMagic, "image: PeMagic\n"),
+    (ImageRefusal::Machine, "image: Machine\n"),
+    (ImageRefusal::OptionalSize, "image: OptionalSize\n"),
+    (ImageRefusal::OptionalMagic, "image: OptionalMagic\n"),
+    (ImageRefusal::Alignment, "image: Alignment\n"),
+    (ImageRefusal::ImageSize, "image: ImageSize\n"),
+    (ImageRefusal::StackSize, "image: StackSize\n"),
+    (ImageRefusal::SectionTable, "image: SectionTable\n"),
+    (ImageRefusal::SectionRange, "image: SectionRange\n"),
+    (ImageRefusal::Directory, "image: Directory\n"),
+    (ImageRefusal::Import, "image: Import\n"),
+    (ImageRefusal::BaseRelocation, "image: BaseRelocation\n"),
+    (ImageRefusal::LoadConfig, "image: LoadConfig\n"),
+    (ImageRefusal::Metadata, "image: Metadata\n"),
+    (ImageRefusal::Entry, "image: Entry\n"),
+];
+
+#[test]
+fn refusals_of_images(rt: HostRuntime) -> Result<(), Fail> {
+    for (refusal, text) in &IMAGES {
+        told(&rt, Report::Image(*refusal), text, 25)?;
     }
     Ok(())
 }
