@@ -1,10 +1,10 @@
 -- From a file to a machine at its start.
-use Rattle.std.proofs.Common.{◌≡◌, ℕ, ◌+◌, ◌<◌, true, false, cond-true, cond-false, IsTrue, List, length, Option, Some, None, Result, Ok, Err, refl, sym, ap, ap₂, subst, ◌∙◌, inl, inr}
+use Rattle.std.proofs.Common.{◌≡◌, ℕ, ◌+◌, ◌<◌, true, false, IsTrue, List, length, Option, Some, None, Result, Ok, Err, refl, sym, ap, ap₂, subst, ◌∙◌, inl, inr}
 use Rattle.std.specs.Prelude.{◌≢◌, ◌⊎◌, IfSome, IsSomeAnd}
-use Rattle.std.proofs.lemmas.Bool.{lt-ltb}
+use Rattle.std.proofs.lemmas.Bool.{lt-ltb, cond-true, cond-false}
 use Rattle.hx_mem.specs.Space.{Space}
 use Rattle.chpe_types.specs.declared.image.Image.{Image}
-use Rattle.machine_rules.specs.State.{Guest, Goes}
+use Rattle.machine_rules.specs.State.{Guest, After, Goes}
 use Rattle.machine_rules.specs.Loads.{base_allowed, start, start_registers, with_stack, loaded, code_in}
 use Rattle.pe_read.specs.declared.refusal.ImageRefusal.{ImageRefusal as Unread}
 use Rattle.pe_read.specs.declared.refusal.ImageRefusal.TheVariants as file

@@ -1,5 +1,5 @@
 -- What a run of the machine leaves, from what the machine's call answers.
-use Rattle.std.proofs.Common.{◌≡◌, ℕ, ◌-◌, ◌<◌, Bool, true, false, IsTrue, List, [], ◌++◌, length, Option, Some, None, refl, sym, ap, subst, ◌∙◌}
+use Rattle.std.proofs.Common.{◌≡◌, ℕ, ◌-◌, ◌<◌, Bool, true, false, IsTrue, List, [], ◌++◌, length, Option, Some, None, Result, Ok, refl, sym, ap, subst, ◌∙◌}
 use Rattle.hx_io.specs.Streams.{AppendsPrefix}
 use Rattle.chpe_types.specs.declared.image.Image.{Image}
 use Rattle.machine_rules.specs.declared.ends.GuestEnd.{GuestEnd}
@@ -9,9 +9,11 @@ use Rattle.machine_rules.specs.declared.ends.RunEnd.TheVariants.{Exit, Trap, Bud
 use Rattle.machine_rules.specs.State.{Guest, Code, After, Goes, Ends}
 use Rattle.machine_rules.specs.Loads.{start, code_in}
 use Rattle.machine_rules.specs.Runs.{run_from, act_of, machine_of}
-use Rattle.mixed_machine.specs.States.{after_with}
+use Rattle.mixed_machine.specs.declared.machine.Machine.{Machine as Kept}
+use Rattle.mixed_machine.specs.States.{guest_of, after_with, after_of}
 use Rattle.mixed_machine.specs.Answers.{Tells, Runs, RunPuts}
-use Rattle.image_run.specs.Runs.{GoesOn, EndedAs, EndsAs, Streams, IsGone, IsWhole, IsUnread, IsUnwritten, Leaves}
+use Rattle.image_run.specs.Courses.{ImageCourse, OpensFile}
+use Rattle.image_run.specs.Runs.{HasRun, GoesOn, EndedAs, EndsAs, Streams, IsGone, IsWhole, IsUnread, IsUnwritten, Leaves}
 use Rattle.image_run.proofs.TakenLaws.{Went, run_went, gone_of}
 
 input_of : (kept : Option GuestEnd) (g : Guest) (rest : List ℕ) → (machine_of (after_with kept g rest)).input ≡ rest
@@ -103,3 +105,12 @@ run_leaves i base n code first kept g s end c f t r p =
     let put : IsTrue s.told → RunPuts end (code_in i base) n (Goes (start i base s.left)) (after_with kept g s.rest) s.old s.new = λ told.
     subst (λ (x : Code). RunPuts end x n (Goes (start i base s.left)) (after_with kept g s.rest) s.old s.new) c (subst (λ (x : After). RunPuts end code n x (after_with kept g s.rest) s.old s.new) f (p told)) in
     same_leaves i base n kept g s end (leaves_from (code_in i base) (Goes (start i base s.left)) kept g s refl n end t runs put)
+
+pub has_run : (told : Bool) (course : ImageCourse) (base n : ℕ) (input_told : Bool) (old new : Kept) (s : Streams) (end : RunEnd) → OpensFile told course base (Ok old) → Tells end new.end
+    → (IsTrue input_told → Runs end old.code n (after_of old s.left) (after_of new s.rest))
+    → (IsTrue s.told → IsTrue input_told → RunPuts end old.code n (after_of old s.left) (after_of new s.rest) s.old s.new) → HasRun told course base n input_told s end
+has_run told course base n input_told old new s end (i, wanted, starts) t r p = record {
+  image = i;
+  wanted = wanted;
+  leaves = λ it. run_leaves i base n old.code (after_of old s.left) new.end (guest_of new.guest) s end starts.code (starts.state s.left) t (r it) (λ st. p st it);
+}

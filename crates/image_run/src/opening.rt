@@ -38,7 +38,8 @@ fn read_file<S: Store>(alloc: Global, name: &str, store: &mut S) -> Result<Vec<u
 /// The image that the bytes of a file are.
 #[tactic(auto, using(crate::proofs::OpenLaws::unread))]
 fn read_image(alloc: Global, bytes: &[u8]) -> Result<Image, RunRefusal>
-    ensures { ReadsImage (image_of bytes.now) result }
+    ensures reads { ReadsImage (image_of bytes.now) result }
+    ensures inside { IsErrOf result RunRefusal.StoreFault → ⊥ }
 {
     match read(alloc, bytes) {
         Ok(image) => Ok(image),
@@ -49,7 +50,8 @@ fn read_image(alloc: Global, bytes: &[u8]) -> Result<Image, RunRefusal>
 /// A machine at the start of an image at a base.
 fn start(alloc: Global, image: &Image, base: u64) -> Result<Machine, RunRefusal>
     requires { CanLoad image.now }
-    ensures { Starts image.now base result }
+    ensures starts { Starts image.now base result }
+    ensures inside { IsErrOf result RunRefusal.StoreFault → ⊥ }
 {
     match load(alloc, image, base) {
         Ok(loaded) => Ok(Machine::new(alloc, loaded)?),
@@ -59,7 +61,8 @@ fn start(alloc: Global, image: &Image, base: u64) -> Result<Machine, RunRefusal>
 
 /// A machine at the start of the image that the bytes of a file are.
 fn open(alloc: Global, bytes: &[u8], base: u64) -> Result<Machine, RunRefusal>
-    ensures { Opens (image_of bytes.now) base result }
+    ensures opens { Opens (image_of bytes.now) base result }
+    ensures inside { IsErrOf result RunRefusal.StoreFault → ⊥ }
 {
     let image = read_image(alloc, bytes)?;
     start(alloc, &image, base)

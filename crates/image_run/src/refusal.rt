@@ -1,6 +1,6 @@
 //! Why an image isn't run.
 
-ghost use Rattle.std.specs.Prelude.{◌≡◌};
+ghost use Rattle.std.specs.Prelude.{◌≡◌, ◌≢◌};
 ghost use Rattle.image_run.specs.Courses.{TellsFile, TellsLoad};
 ghost use Rattle.image_run.specs.declared.refusal.RunRefusal.TheVariants.{NoMemory};
 
@@ -35,7 +35,8 @@ impl From<AllocError> for RunRefusal {
 
 /// Why a file is none that is run, by why it is no image.
 pub fn of_file(why: Unread) -> RunRefusal
-    ensures { TellsFile why result }
+    ensures tells { TellsFile why result }
+    ensures inside { result ≢ RunRefusal.StoreFault }
 {
     RunRefusal::Image(match why {
         Unread::TooLarge => ImageRefusal::TooLarge,
@@ -63,7 +64,8 @@ pub fn of_file(why: Unread) -> RunRefusal
 
 /// Why an image is none that is run, by why it isn't loaded.
 pub fn of_load(why: Unloaded) -> RunRefusal
-    ensures { TellsLoad why result }
+    ensures tells { TellsLoad why result }
+    ensures inside { result ≢ RunRefusal.StoreFault }
 {
     match why {
         Unloaded::BadBase => RunRefusal::Load(LoadRefusal::BadBase),
