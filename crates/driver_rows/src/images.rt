@@ -86,36 +86,47 @@ static SAMPLE: [u8; 1029] = [
     0x00, 0x68, 0xA1, 0x00, 0x00,
 ];
 
-/// What fails: the calls of the store, the input and the output.
-#[derive(Clone, Copy)]
-struct Fails {
-    store: &'static [u64],
-    input: &'static [u64],
-    out: &'static [u64],
+/// Whose first call fails.
+#[derive(Clone, Copy, PartialEq, Eq)]
+enum Failing {
+    Nothing,
+    Store,
+    Input,
+    Output,
 }
 
-static NONE_FAIL: Fails = Fails {
-    store: &[],
-    input: &[],
-    out: &[],
-};
+/// The numbers of the calls that fail: the first, or none.
+fn fails<R: AllocGlobal>(rt: &R, first: bool) -> Result<Vec<u64>, Fail> {
+    let mut calls = Vec::new(rt.alloc());
+    if first {
+        calls.push(0)?;
+    }
+    Ok(calls)
+}
 
 /// Words, a place of the sample's file with the byte that it becomes, what fails; what is put, the line and the status.
 type Row = (
     &'static str,
     (usize, u8),
-    Fails,
+    Failing,
     &'static str,
     &'static str,
     u8,
 );
 
 static ROWS: [Row; 20] = [
-    ("run p.img", (0, 0x4D), NONE_FAIL, "Z", "exit 42\n", 0),
+    (
+        "run p.img",
+        (0, 0x4D),
+        Failing::Nothing,
+        "Z",
+        "exit 42\n",
+        0,
+    ),
     (
         "run p.img --base 65536",
         (0, 0x4D),
-        NONE_FAIL,
+        Failing::Nothing,
         "Z",
         "exit 42\n",
         0,
@@ -124,7 +135,7 @@ static ROWS: [Row; 20] = [
     (
         "run p.img --base 70368744112128",
         (0, 0x4D),
-        NONE_FAIL,
+        Failing::Nothing,
         "Z",
         "exit 42\n",
         0,
@@ -133,7 +144,7 @@ static ROWS: [Row; 20] = [
     (
         "run p.img --fuel 16",
         (0, 0x4D),
-        NONE_FAIL,
+        Failing::Nothing,
         "Z",
         "exit 42\n",
         0,
@@ -141,7 +152,7 @@ static ROWS: [Row; 20] = [
     (
         "run p.img --fuel 15",
         (0, 0x4D),
-        NONE_FAIL,
+        Failing::Nothing,
         "Z",
         "budget\n",
         11,
@@ -149,7 +160,7 @@ static ROWS: [Row; 20] = [
     (
         "run p.img --fuel 5",
         (0, 0x4D),
-        NONE_FAIL,
+        Failing::Nothing,
         "",
         "budget\n",
         11,
@@ -157,17 +168,24 @@ static ROWS: [Row; 20] = [
     (
         "run none.img",
         (0, 0x4D),
-        NONE_FAIL,
+        Failing::Nothing,
         "",
         "missing none.img\n",
         27,
     ),
-    ("run p.c", (0, 0x4D), NONE_FAIL, "", "image: Short\n", 25),
+    (
+        "run p.c",
+        (0, 0x4D),
+        Failing::Nothing,
+        "",
+        "image: Short\n",
+        25,
+    ),
     // the refusal of the file before that of the base
     (
         "run p.img --base 65537",
         (0, 0x4C),
-        NONE_FAIL,
+        Failing::Nothing,
         "",
         "image: DosMagic\n",
         25,
@@ -176,7 +194,7 @@ static ROWS: [Row; 20] = [
     (
         "run p.img",
         (105, 0x20),
-        NONE_FAIL,
+        Failing::Nothing,
         "",
         "image: Entry\n",
         25,
@@ -184,7 +202,7 @@ static ROWS: [Row; 20] = [
     (
         "run p.img --base 65537",
         (680, b'E'),
-        NONE_FAIL,
+        Failing::Nothing,
         "",
         "load: BadBase\n",
         26,
@@ -192,7 +210,7 @@ static ROWS: [Row; 20] = [
     (
         "run p.img --base 70368744177664",
         (0, 0x4D),
-        NONE_FAIL,
+        Failing::Nothing,
         "",
         "load: BadBase\n",
         26,
@@ -201,7 +219,7 @@ static ROWS: [Row; 20] = [
     (
         "run p.img",
         (680, b'E'),
-        NONE_FAIL,
+        Failing::Nothing,
         "",
         "load: UnknownImport\n",
         26,
@@ -210,25 +228,25 @@ static ROWS: [Row; 20] = [
     (
         "run p.img",
         (1006, 0x60),
-        NONE_FAIL,
+        Failing::Nothing,
         "",
         "load: BadRelocation\n",
         26,
     ),
-    // `hlt`
+    // `hlt`, which is none of the table
     (
         "run p.img --base 0x10000",
         (488, 0xF4),
-        NONE_FAIL,
+        Failing::Nothing,
         "",
-        "stuck Halt at 0x11000\n",
+        "stuck BadInstruction at 0x11000\n",
         13,
     ),
     // `add rsp, 20h`, past the stack
     (
         "run p.img",
         (490, 0xC4),
-        NONE_FAIL,
+        Failing::Nothing,
         "",
         "stuck Unmapped at 0x140001004\n",
         13,
@@ -237,7 +255,7 @@ static ROWS: [Row; 20] = [
     (
         "run p.img",
         (530, 0x05),
-        NONE_FAIL,
+        Failing::Nothing,
         "Z",
         "exit 4\n",
         0,
@@ -245,11 +263,7 @@ static ROWS: [Row; 20] = [
     (
         "run p.img",
         (0, 0x4D),
-        Fails {
-            store: &[0],
-            input: &[],
-            out: &[],
-        },
+        Failing::Store,
         "",
         "store fault\n",
         30,
@@ -257,11 +271,7 @@ static ROWS: [Row; 20] = [
     (
         "run p.img",
         (0, 0x4D),
-        Fails {
-            store: &[],
-            input: &[0],
-            out: &[],
-        },
+        Failing::Input,
         "",
         "read fault\n",
         31,
@@ -269,11 +279,7 @@ static ROWS: [Row; 20] = [
     (
         "run p.img",
         (0, 0x4D),
-        Fails {
-            store: &[],
-            input: &[],
-            out: &[0],
-        },
+        Failing::Output,
         "",
         "write fault\n",
         32,
@@ -283,7 +289,7 @@ static ROWS: [Row; 20] = [
 #[test]
 fn images(rt: HostRuntime) -> Result<(), Fail> {
     let alloc = rt.alloc();
-    for (line, (place, byte), fails, output, note, status) in &ROWS {
+    for (line, (place, byte), failing, output, note, status) in &ROWS {
         let mut words = Vec::new(alloc);
         for word in line.split(' ') {
             words.push(String::from_str(alloc, word)?)?;
@@ -295,10 +301,13 @@ fn images(rt: HostRuntime) -> Result<(), Fail> {
         let mut held = MemStore::new(alloc);
         held.save(alloc, "p.img", &file)?;
         held.save(alloc, "p.c", b"int main(void){return 0;}")?;
-        let mut store = FailStore::new(held, Vec::from_slice(alloc, fails.store)?);
+        let mut store = FailStore::new(held, fails(&rt, *failing == Failing::Store)?);
         let taken = MemSource::new(Vec::from_slice(alloc, b"Z!")?);
-        let mut input = FailSource::new(taken, Vec::from_slice(alloc, fails.input)?);
-        let mut out = FailSink::new(MemSink::new(alloc, 8)?, Vec::from_slice(alloc, fails.out)?);
+        let mut input = FailSource::new(taken, fails(&rt, *failing == Failing::Input)?);
+        let mut out = FailSink::new(
+            MemSink::new(alloc, 8)?,
+            fails(&rt, *failing == Failing::Output)?,
+        );
         let mut notes = FailSink::new(MemSink::new(alloc, 64)?, Vec::new(alloc));
         let report = ecc(alloc, &words, &mut store, &mut input, &mut out, &mut notes);
         assert_eq!(rt; out.inner().bytes(), output.as_bytes(), "output of {line}");
