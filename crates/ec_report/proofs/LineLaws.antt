@@ -24,31 +24,31 @@ second_of xs = first_of (rest_of xs)
 -- b: built or budget; s: stack spent, stuck or store fault; n: not built or no memory
 abbrev pub by_third : ℕ → ℕ → ℕ
 by_third c t =
-  if c == 98 then (if t == 100 then 11 else 0)
-  else if c == 115 then (if t == 97 then 12 else if t == 117 then 13 else 30)
-  else if t == 116 then 29 else 33
+    if c == 98 then (if t == 100 then 11 else 0)
+    else if c == 115 then (if t == 97 then 12 else if t == 117 then 13 else 30)
+    else if t == 116 then 29 else 33
 
 -- u: usage or unit; l: limit or load; m: mark or missing
 abbrev pub by_second : ℕ → ℕ → ℕ
 by_second c t =
-  if c == 117 then (if t == 115 then 2 else 20)
-  else if c == 108 then (if t == 105 then 21 else 26)
-  else if t == 97 then 22 else 27
+    if c == 117 then (if t == 115 then 2 else 20)
+    else if c == 108 then (if t == 105 then 21 else 26)
+    else if t == 97 then 22 else 27
 
 -- t: trap; i: image; r: read fault; w: write fault; else a line of success
 abbrev pub by_first : ℕ → List ℕ → ℕ
 by_first c xs =
-  if c == 98 then by_third c (third_of xs)
-  else if c == 115 then by_third c (third_of xs)
-  else if c == 110 then by_third c (third_of xs)
-  else if c == 117 then by_second c (second_of xs)
-  else if c == 108 then by_second c (second_of xs)
-  else if c == 109 then by_second c (second_of xs)
-  else if c == 116 then 10
-  else if c == 105 then 25
-  else if c == 114 then 31
-  else if c == 119 then 32
-  else 0
+    if c == 98 then by_third c (third_of xs)
+    else if c == 115 then by_third c (third_of xs)
+    else if c == 110 then by_third c (third_of xs)
+    else if c == 117 then by_second c (second_of xs)
+    else if c == 108 then by_second c (second_of xs)
+    else if c == 109 then by_second c (second_of xs)
+    else if c == 116 then 10
+    else if c == 105 then 25
+    else if c == 114 then 31
+    else if c == 119 then 32
+    else 0
 
 abbrev pub status_by : List ℕ → ℕ
 status_by xs = by_first (first_of xs) xs

@@ -92,7 +92,7 @@ goes_with input g = Goes (record { guest = g; input = input })
 pub is_start : (i : Image) (base : ℕ) (l : Loaded) (m : Machine) → IsLoadedOf i base l → IsStartOf l m → IsStart i base m
 is_start i base l m of s = record {
   state = λ input.
-    ap (λ o. after_with o (guest_of m.guest) input) s.end
-    ∙ ap (goes_with input) (s.guest ∙ ap (λ e. guest_at e l.mem l.stack) of.entry ∙ ap₂ (guest_at (base + i.entry)) of.mem of.stack);
+      ap (λ o. after_with o (guest_of m.guest) input) s.end
+      ∙ ap (goes_with input) (s.guest ∙ ap (λ e. guest_at e l.mem l.stack) of.entry ∙ ap₂ (guest_at (base + i.entry)) of.mem of.stack);
   code = s.code ∙ ap₂ code_of of.meta of.at;
 }

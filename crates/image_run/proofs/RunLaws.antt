@@ -58,11 +58,15 @@ module _ (code : Code) (a : After) (kept : Option GuestEnd) (g : Guest) (s : Str
   unwritten n t true e r p = made (p e)
     where
       made : RunPuts WriteFault code n a now s.old s.new → (k : ℕ) × (k < n) × IsUnwritten code (run_from code k a) s
-      made (k, less, same, put) = (k, less, record {
-        goes = goes_on _ t same;
-        put = λ told. subst (λ (b : After). AppendsPrefix (s.old ++ (run_from code k a).output) (act_of code b).put s.new) same put;
-        gone = gone_by k same;
-      })
+      made (k, less, same, put) = (
+        k,
+        less,
+        record {
+          goes = goes_on _ t same;
+          put = λ told. subst (λ (b : After). AppendsPrefix (s.old ++ (run_from code k a).output) (act_of code b).put s.new) same put;
+          gone = gone_by k same;
+        },
+      )
   unwritten n t false e r p = made r
     where
       made : Runs WriteFault code n a now → (k : ℕ) × (k < n) × IsUnwritten code (run_from code k a) s

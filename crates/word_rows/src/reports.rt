@@ -1,7 +1,8 @@
 //! Lines and statuses, written out by hand.
 
 use ec_report::{
-    ImageRefusal, LimitKind, LoadRefusal, Outcome, Report, StuckWhy, TypeKind, UnitRefusal, line, status_of,
+    ImageRefusal, LimitKind, LoadRefusal, Outcome, Report, StuckWhy, TypeKind, UnitRefusal, line,
+    status_of,
 };
 use std::process::Abort;
 use std::test::Fail;
