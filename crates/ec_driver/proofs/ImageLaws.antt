@@ -1,15 +1,13 @@
 -- The report of the run of an image, by its course and by what the run left.
-use Rattle.std.proofs.Common.{◌≡◌, ℕ, ◌<◌, IsTrue, List, ◌++◌, Option, Some, None, Result, Ok, Err, refl, sym, ap, subst}
+use Rattle.std.proofs.Common.{◌≡◌, ℕ, Some, refl, sym, ap, subst}
 use Rattle.ec_words.specs.Table.{Text}
 use Rattle.chpe_types.specs.declared.image.Image.{Image}
 use Rattle.machine_rules.specs.declared.ends.RunEnd.{RunEnd}
 use Rattle.machine_rules.specs.declared.ends.RunEnd.TheVariants as ends
 use Rattle.machine_rules.specs.declared.ends.GuestEnd.{GuestEnd}
 use Rattle.machine_rules.specs.declared.ends.GuestEnd.TheVariants as guest
-use Rattle.machine_rules.specs.State.{Machine, After, Goes, Ends}
-use Rattle.machine_rules.specs.Runs.{Run, machine}
-use Rattle.ec_report.specs.declared.kinds.Outcome.{Outcome}
-use Rattle.ec_report.specs.declared.kinds.Outcome.TheVariants.{Exit, Trap, Budget, StackSpent, Stuck}
+use Rattle.machine_rules.specs.Runs.{Run}
+use Rattle.ec_report.specs.declared.kinds.Outcome.TheVariants.{Budget}
 use Rattle.ec_report.specs.declared.reports.Report.{Report}
 use Rattle.ec_report.specs.declared.reports.Report.TheVariants as answer
 use Rattle.ec_units.specs.Verdicts.{absent}
@@ -18,7 +16,7 @@ use Rattle.image_run.specs.declared.refusal.RunRefusal.TheVariants as unrun
 use Rattle.image_run.specs.Courses.{ImageCourse, Refuses, why_of, load_why}
 use Rattle.image_run.specs.Courses as opened
 use Rattle.image_run.specs.Runs.{Streams, GoesOn, EndedAs, IsWhole, Leaves, HasRun}
-use Rattle.ec_driver.specs.Courses.{Course, Stops, BadFiles, RunsImage, run_course}
+use Rattle.ec_driver.specs.Courses.{Course, BadFiles, RunsImage, run_course}
 use Rattle.ec_driver.specs.Answers.{StoreCall, SourceCall, SinkCall, Follows, NothingPassed, told_guest, told_after, streams_of, IsGuestRun, GuestLeaves, HasGuestRun, RunPasses}
 use Rattle.ec_driver.specs.Plans.{report_of_end, NamesFile, TellsRefusal}
 

@@ -1,11 +1,11 @@
 -- From a file to a machine at its start.
-use Rattle.std.proofs.Common.{◌≡◌, ℕ, ◌+◌, ◌<◌, true, false, IsTrue, List, length, Option, Some, None, Result, Ok, Err, refl, sym, ap, ap₂, subst, ◌∙◌, inl, inr}
+use Rattle.std.proofs.Common.{◌≡◌, ℕ, ◌+◌, ◌<◌, List, length, Option, Some, None, Result, Err, refl, sym, ap, ap₂, subst, ◌∙◌, inl, inr}
 use Rattle.std.specs.Prelude.{◌≢◌, ◌⊎◌, IfSome, IsSomeAnd}
 use Rattle.std.proofs.lemmas.Bool.{lt-ltb, cond-true, cond-false}
 use Rattle.hx_mem.specs.Space.{Space}
 use Rattle.chpe_types.specs.declared.image.Image.{Image}
 use Rattle.machine_rules.specs.State.{Guest, After, Goes}
-use Rattle.machine_rules.specs.Loads.{base_allowed, start, start_registers, with_stack, loaded, code_in}
+use Rattle.machine_rules.specs.Loads.{start_registers, with_stack}
 use Rattle.pe_read.specs.declared.refusal.ImageRefusal.{ImageRefusal as Unread}
 use Rattle.pe_read.specs.declared.refusal.ImageRefusal.TheVariants as file
 use Rattle.pe_read.specs.Refusals.{too_large}
@@ -21,7 +21,7 @@ use Rattle.mixed_machine.specs.States.{guest_of, after_with, IsStartOf}
 use Rattle.ec_report.specs.declared.kinds.ImageRefusal.TheVariants as kind
 use Rattle.image_run.specs.declared.refusal.RunRefusal.{RunRefusal}
 use Rattle.image_run.specs.declared.refusal.RunRefusal.TheVariants as refusal
-use Rattle.image_run.specs.Courses.{ImageCourse, absent, unreadable, unloadable, runs, bad_base, by_import, by_site, load_course, read_course, found_course, course_in, Refuses, unread_course, TellsFile, unloaded_course, TellsLoad, IsStart}
+use Rattle.image_run.specs.Courses.{ImageCourse, unreadable, runs, by_import, by_site, load_course, read_course, found_course, course_in, Refuses, unread_course, TellsFile, TellsLoad, IsStart}
 
 -- ---- the file
 

@@ -1,12 +1,12 @@
 -- What a run of the machine leaves, from what the machine's call answers.
-use Rattle.std.proofs.Common.{◌≡◌, ℕ, ◌-◌, ◌<◌, Bool, true, false, IsTrue, List, [], ◌++◌, length, Option, Some, None, Result, Ok, refl, sym, ap, subst, ◌∙◌}
+use Rattle.std.proofs.Common.{◌≡◌, ℕ, ◌-◌, ◌<◌, Bool, true, false, IsTrue, List, ◌++◌, length, Option, Some, None, Ok, refl, sym, ap, subst, ◌∙◌}
 use Rattle.hx_io.specs.Streams.{AppendsPrefix}
 use Rattle.chpe_types.specs.declared.image.Image.{Image}
 use Rattle.machine_rules.specs.declared.ends.GuestEnd.{GuestEnd}
 use Rattle.machine_rules.specs.declared.ends.GuestEnd.TheVariants as guest
 use Rattle.machine_rules.specs.declared.ends.RunEnd.{RunEnd}
 use Rattle.machine_rules.specs.declared.ends.RunEnd.TheVariants.{Exit, Trap, Budget, StackSpent, Stuck, ReadFault, WriteFault}
-use Rattle.machine_rules.specs.State.{Guest, Code, After, Goes, Ends}
+use Rattle.machine_rules.specs.State.{Guest, Code, After, Goes}
 use Rattle.machine_rules.specs.Loads.{start, code_in}
 use Rattle.machine_rules.specs.Runs.{run_from, act_of, machine_of}
 use Rattle.mixed_machine.specs.declared.machine.Machine.{Machine as Kept}

@@ -1,5 +1,5 @@
 -- A run takes its input from the front.
-use Rattle.std.proofs.Common.{◌≡◌, ℕ, zero, suc, ◌+◌, ◌-◌, List, [], ◌∷◌, ◌++◌, length, append_assoc, refl, sym, ap, subst, ◌∙◌, arith, Result, Ok, Err}
+use Rattle.std.proofs.Common.{◌≡◌, ℕ, zero, suc, ◌+◌, ◌-◌, List, [], ◌∷◌, ◌++◌, length, append_assoc, refl, sym, ap, ◌∙◌, arith, Result, Ok, Err}
 use Rattle.std.proofs.lemmas.List.{length-append}
 use Rattle.hx_mem.specs.Space.{Space}
 use Rattle.reg_map.specs.Registers.{Registers}
@@ -9,7 +9,7 @@ use Rattle.machine_rules.specs.declared.places.Place.{Place}
 use Rattle.machine_rules.specs.declared.places.Place.TheVariants.{AtService, InRange, Nowhere}
 use Rattle.machine_rules.specs.declared.places.Service.{Service}
 use Rattle.machine_rules.specs.declared.places.Service.TheVariants.{PutByte, GetByte, ExitGuest, TrapGuest, CheckCall, DispatchCall, DispatchReturn}
-use Rattle.machine_rules.specs.State.{Guest, Machine, Code, Way, On, Off, After, Goes, Ends, Act, after_way, place_at}
+use Rattle.machine_rules.specs.State.{Guest, Machine, Code, Way, On, Off, After, Goes, Ends, after_way, place_at}
 use Rattle.hx_mem.specs.Space.{store_of}
 use Rattle.x64_exec.specs.Words.{minus}
 use Rattle.machine_rules.specs.Steps.{back, puts, taken, gets, checks, dispatched, returned, serve, instruct, act_at, step_of}
