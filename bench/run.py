@@ -3,7 +3,7 @@
 
   bench/run.py PROGRAM       the built program, as crates/ec_cli/out/ec_cli
 
-Each loop takes 2 steps a turn. Prints the best of five runs of a million and of two million turns, their ratio (2 at most
+Each loop takes 2 steps a turn. Prints the best of five runs of two million and of four million turns, their ratio (2 at most
 for linear work), steps per second, and the ratio of the x64 loop in an image of 94 sections to the one in four.
 """
 import os
@@ -15,7 +15,7 @@ import time
 sys.path.insert(0, os.path.join(os.path.dirname(os.path.abspath(__file__)), "..", "tools"))
 from image_sample import loop
 
-TURNS = 1_000_000
+TURNS = 2_000_000
 
 
 def best(program, path):
@@ -39,7 +39,7 @@ def main():
 
         for side in ("x64", "ec"):
             once, twice = timed(side, TURNS, 0), timed(side, 2 * TURNS, 0)
-            print(f"{side}: 2*10^6 steps {once * 1000:.0f} ms, 4*10^6 steps {twice * 1000:.0f} ms, ratio {twice / once:.2f}, {4 * TURNS / twice:.0f} steps a second")
+            print(f"{side}: 4*10^6 steps {once * 1000:.0f} ms, 8*10^6 steps {twice * 1000:.0f} ms, ratio {twice / once:.2f}, {4 * TURNS / twice:.0f} steps a second")
             many = timed(side, 2 * TURNS, 90)
             print(f"{side}: in 94 sections {many * 1000:.0f} ms, ratio {many / twice:.2f}")
 
