@@ -1,0 +1,5 @@
+pub mod ZeroLaws
+pub mod SameLaws
+pub mod PlaceLaws
+pub mod SlotLaws
+pub mod BlockWalk
