@@ -3,3 +3,7 @@ pub mod SameLaws
 pub mod PlaceLaws
 pub mod SlotLaws
 pub mod BlockWalk
+pub mod SiteLaws
+pub mod Header
+pub mod Room
+pub mod Rows

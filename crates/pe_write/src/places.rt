@@ -2,7 +2,8 @@
 
 ghost use Rattle.std.specs.Prelude.{◌≡◌, ◌+◌, ◌*◌, ◌++◌, ◌<◌, ◌≤◌, ◌^◌, ◌==◌, ◌&&◌, ℕ, List, length, true, IfOk, IfSome, IfNone};
 ghost use Rattle.file_words.specs.Below.{first_below};
-ghost use Rattle.pe_write.specs.Places.{is_import_place, found_imports, import_place, has_meta, is_config_place, config_place, size_at, is_blocks_place, found_blocks, blocks_place, blocks_size};
+ghost use Rattle.pe_write.specs.Places.{or_zero, is_import_place, found_imports, import_place, has_meta, is_config_place, config_place, size_at, is_blocks_place, found_blocks, blocks_place, blocks_size};
+ghost use Rattle.pe_fields.specs.Imports.{same_text};
 ghost use Rattle.pe_fields.specs.Space.{is_mapped};
 
 use crate::blocks::{block_fails, block_size, block_sites};
@@ -106,12 +107,25 @@ pub fn import_place(alloc: Global, image: &Image) -> Result<u32, AllocError>
     Ok(place)
 }
 
+fn are_same_sites(sites: &[u32], other: &[u32]) -> bool
+    ensures { result ≡ same_text sites.now other.now }
+{
+    sites == other
+}
+
 /// What of the sites is left after those of a block, or that it has others.
+#[tactic(auto, using(crate::proofs::SiteLaws::front_short, crate::proofs::SiteLaws::front_other))]
 fn sites_after<'a>(left: &'a [u32], found: &[u32]) -> Option<&'a [u32]>
     ensures some { IfSome result (λ rest. found.now ++ rest.now ≡ left.now) }
     ensures none { IfNone result ((rest : List ℕ) → found.now ++ rest ≡ left.now → ⊥) }
 {
-    left.strip_prefix(found)
+    if left.len() < found.len() {
+        return None;
+    }
+    if !are_same_sites(&left[..found.len()], found) {
+        return None;
+    }
+    Some(&left[found.len()..])
 }
 
 /// Whether no site is left, and the blocks at a place lie in a section.
@@ -122,7 +136,7 @@ fn is_whole(image: &Image, left: &[u32], place: u32, end: u32) -> bool
 }
 
 /// The least size of blocks at a place that have the sites of the image.
-#[tactic(auto, using(pe_fields::proofs::BlockLaws::fits, pe_fields::proofs::BlockLaws::aligned, crate::proofs::BlockWalk::walk_start, crate::proofs::BlockWalk::walk_found, crate::proofs::BlockWalk::walk_ended, crate::proofs::BlockWalk::walk_bad, crate::proofs::BlockWalk::walk_next, crate::proofs::BlockWalk::walk_other))]
+#[tactic(auto, using(pe_fields::proofs::BlockLaws::fits, pe_fields::proofs::BlockLaws::aligned, crate::proofs::BlockWalk::walk_found, crate::proofs::BlockWalk::walk_ended, crate::proofs::BlockWalk::walk_bad))]
 fn size_at(alloc: Global, image: &Image, place: u32) -> Result<Option<u32>, AllocError>
     ensures { IfOk result (λ size. size ≡ size_at image.now place) }
 {
@@ -149,14 +163,55 @@ fn size_at(alloc: Global, image: &Image, place: u32) -> Result<Option<u32>, Allo
     Ok(None)
 }
 
-/// The first place of such blocks, or 0.
+fn is_blocks_place(alloc: Global, image: &Image, place: u32) -> Result<bool, AllocError>
+    ensures { IfOk result (λ found. found ≡ is_blocks_place image.now place) }
+{
+    let size = size_at(alloc, image, place)?;
+    Ok(size.is_some())
+}
+
+#[tactic(auto, using(file_words::proofs::BelowLaws::first_none, file_words::proofs::BelowLaws::first_kept, crate::proofs::SiteLaws::blocks_first, crate::proofs::SiteLaws::blocks_none))]
 fn found_blocks(alloc: Global, image: &Image) -> Result<u32, AllocError>
     ensures { IfOk result (λ place. place ≡ found_blocks image.now) }
 {
     for place in 0..image.size {
-        if size_at(alloc, image, place)?.is_some() {
+        if is_blocks_place(alloc, image, place)? {
             return Ok(place);
         }
     }
     Ok(0)
+}
+
+/// The first place of such blocks, or 0 where the image has no sites.
+#[tactic(auto, using(crate::proofs::SiteLaws::blocks_unused, crate::proofs::SiteLaws::blocks_used))]
+pub fn blocks_place(alloc: Global, image: &Image) -> Result<u32, AllocError>
+    ensures { IfOk result (λ place. place ≡ blocks_place image.now) }
+{
+    if image.sites.len() == 0 {
+        return Ok(0);
+    }
+    let place = found_blocks(alloc, image)?;
+    Ok(place)
+}
+
+fn or_zero(size: Option<u32>) -> u32
+    ensures { result ≡ or_zero size }
+{
+    match size {
+        None => 0,
+        Some(n) => n,
+    }
+}
+
+/// The size of the blocks at their place.
+#[tactic(auto, using(crate::proofs::SiteLaws::size_unused, crate::proofs::SiteLaws::size_used))]
+pub fn blocks_size(alloc: Global, image: &Image, place: u32) -> Result<u32, AllocError>
+    requires { place ≡ blocks_place image.now }
+    ensures { IfOk result (λ size. size ≡ blocks_size image.now) }
+{
+    if image.sites.len() == 0 {
+        return Ok(0);
+    }
+    let size = size_at(alloc, image, place)?;
+    Ok(or_zero(size))
 }
