@@ -7,3 +7,9 @@ pub mod SiteLaws
 pub mod Header
 pub mod Room
 pub mod Rows
+pub mod Alike
+pub mod SectionTests
+pub mod Directories
+pub mod Back
+pub mod FileBytes
+pub mod ReadAllowed

@@ -65,7 +65,7 @@ placed_at size first [] j d h lt = absurd (omega arith)
 placed_at size first (s ∷ ss) zero d h lt = (placed_parts size first s ss h).0
 placed_at size first (s ∷ ss) (suc j) d h lt = placed_at size (s.rva + s.size) ss j d (placed_parts size first s ss h).1 (omega arith)
 
-first_here : (first : ℕ) (ss : List ImageSection) → first_of first ss zero ≡ first
+pub first_here : (first : ℕ) (ss : List ImageSection) → first_of first ss zero ≡ first
 first_here first ss = refl
 
 pub first_after : (first : ℕ) (ss : List ImageSection) (j : ℕ) (d : ImageSection) → j < length ss → first_of first ss (suc j) ≡ (get_or ss j d).rva + (get_or ss j d).size

@@ -106,7 +106,7 @@ module _ (i : Image) (placed : are_placed i.size 4096 i.sections ≡ true) where
 
 -- ---- row and contents j
 
-row_at : (b : List ℕ) (size first p q : ℕ) (ss : List ImageSection) (j : ℕ) (d : ImageSection) → are_placed size first ss ≡ true → Has b p (section_rows q ss) → j < length ss → Has b (p + 40 * j) (section_row (q + contents_size (take j ss)) (get_or ss j d))
+pub row_at : (b : List ℕ) (size first p q : ℕ) (ss : List ImageSection) (j : ℕ) (d : ImageSection) → are_placed size first ss ≡ true → Has b p (section_rows q ss) → j < length ss → Has b (p + 40 * j) (section_row (q + contents_size (take j ss)) (get_or ss j d))
 row_at b size first p q [] j d h has lt = absurd (omega arith)
 row_at b size first p q (s ∷ ss) zero d h has lt =
     let here : Has b p (section_row q s) = has_left b p (section_row q s) (section_rows (q + blocks (length s.bytes)) ss) has in
@@ -122,14 +122,14 @@ bytes_has : (b : List ℕ) (q : ℕ) (xs more : List ℕ) → Has b q (padded xs
 unfolding padded
 bytes_has b q xs more has = has_left b q xs (zeros (blocks (length xs) - length xs)) (has_left b q (padded xs) more has)
 
-contents_at : (b : List ℕ) (q : ℕ) (ss : List ImageSection) (j : ℕ) (d : ImageSection) → Has b q (contents ss) → j < length ss → Has b (q + contents_size (take j ss)) (get_or ss j d).bytes
+pub contents_at : (b : List ℕ) (q : ℕ) (ss : List ImageSection) (j : ℕ) (d : ImageSection) → Has b q (contents ss) → j < length ss → Has b (q + contents_size (take j ss)) (get_or ss j d).bytes
 contents_at b q [] j d has lt = absurd (omega arith)
 contents_at b q (s ∷ ss) zero d has lt = has_moved b q (q + 0) s.bytes (omega arith) (bytes_has b q s.bytes (contents ss) has)
 contents_at b q (s ∷ ss) (suc j) d has lt =
     let rest : Has b (q + length (padded s.bytes)) (contents ss) = has_right b q (padded s.bytes) (contents ss) has in
     has_moved b (q + length (padded s.bytes) + contents_size (take j ss)) (q + (blocks (length s.bytes) + contents_size (take j ss))) _ (omega (arith, padded_long s.bytes)) (contents_at b (q + length (padded s.bytes)) ss j d rest (omega arith))
 
-contents_within : (ss : List ImageSection) (j : ℕ) (d : ImageSection) → j < length ss → contents_size (take j ss) + length (get_or ss j d).bytes ≤ contents_size ss
+pub contents_within : (ss : List ImageSection) (j : ℕ) (d : ImageSection) → j < length ss → contents_size (take j ss) + length (get_or ss j d).bytes ≤ contents_size ss
 contents_within [] j d lt = absurd (omega arith)
 contents_within (s ∷ ss) zero d lt = omega arith
 contents_within (s ∷ ss) (suc j) d lt = omega (arith, contents_within ss j d (omega arith))
@@ -191,7 +191,7 @@ until_padded (c ∷ xs) k h =
     let l = and_parts (not (eqb c 0)) _ g.0 in
     until_step (eqb c 0) c _ (xs ++ zeros k) xs (not-true (eqb c 0) l.0) (until_padded xs k g.1)
 
-row_fields : (b : List ℕ) (j place : ℕ) (s : ImageSection) → pe_place b ≡ 64 → Has b (328 + 40 * j) (section_row place s) → Section s → s.size < 4294967296 → s.rva < 4294967296 → length s.bytes < 4294967296 → place < 4294967296 → Row b j place s
+pub row_fields : (b : List ℕ) (j place : ℕ) (s : ImageSection) → pe_place b ≡ 64 → Has b (328 + 40 * j) (section_row place s) → Section s → s.size < 4294967296 → s.rva < 4294967296 → length s.bytes < 4294967296 → place < 4294967296 → Row b j place s
 unfolding section_place virtual_size section_rva raw_size raw_place section_flags section_name
 row_fields b j place s at has sound size rva raw room =
     let parts : Has b (328 + 40 * j) (name_field s ++ fields place s) = has_same b (328 + 40 * j) _ _ (row_parts place s) has in
@@ -215,6 +215,6 @@ bytes_back b j place s row has held =
     let few : min (raw_size b j) (virtual_size b j) ≡ length s.bytes = omega (arith, row.raw_is, row.size_is) in
     ap (λ (n : ℕ). part_of b (raw_place b j) n) few ∙ ap (λ (p : ℕ). part_of b p (length s.bytes)) row.place_is ∙ part_has b place (length s.bytes) s.bytes has refl
 
-section_back : (b : List ℕ) (j place : ℕ) (s : ImageSection) → Row b j place s → Has b place s.bytes → length s.bytes ≤ s.size → section b j ≡ s
+pub section_back : (b : List ℕ) (j place : ℕ) (s : ImageSection) → Row b j place s → Has b place s.bytes → length s.bytes ≤ s.size → section b j ≡ s
 unfolding section
 section_back b j place s row has held = same_section _ _ _ _ _ s row.name_is row.rva_is row.size_is row.flags_is (bytes_back b j place s row has held)

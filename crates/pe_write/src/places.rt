@@ -174,9 +174,9 @@ fn is_blocks_place(alloc: Global, image: &Image, place: u32) -> Result<bool, All
 fn found_blocks(alloc: Global, image: &Image) -> Result<u32, AllocError>
     ensures { IfOk result (λ place. place ≡ found_blocks image.now) }
 {
-    for place in 0..image.size {
-        if is_blocks_place(alloc, image, place)? {
-            return Ok(place);
+    for start in 0..image.size {
+        if is_blocks_place(alloc, image, start)? {
+            return Ok(start);
         }
     }
     Ok(0)
