@@ -11,7 +11,8 @@ use Rattle.pe_fields.specs.Imports.{same_text}
 use Rattle.pe_fields.specs.Relocations.{page_of, block_size, bad_type, entry_count, bad_head, bad_block, block_sites, block_place, is_block, is_bad, bad_relocations, sites_in, sites}
 use Rattle.pe_fields.proofs.ImportLaws.{first_is}
 use Rattle.pe_fields.proofs.BlockLaws.{first_place, next_place, fits, sites_later}
-use Rattle.pe_write.specs.Places.{has_sites, size_at}
+use Rattle.pe_write_laws.specs.Places.{has_sites, size_at}
+use Rattle.pe_write_laws.proofs.Alike.{text_same, same_itself}
 
 -- ---- no number below n passes
 
@@ -150,18 +151,6 @@ sites_begin r n k le h =
 bad_there : (r : List ℕ) (n k : ℕ) → block_place r k < n → k < n → bad_block r (block_place r k) (n - block_place r k) ≡ true → bad_relocations r n ≡ true
 unfolding bad_relocations is_bad is_block
 bad_there r n k lt k_lt t = any_found (is_bad r n) n k k_lt (and_from (ltb (block_place r k) n) _ (lt-ltb (block_place r k) n lt) t)
-
--- ---- texts
-
-pub text_same : (xs ys : List ℕ) → same_text xs ys ≡ true → xs ≡ ys
-text_same [] [] e = refl
-text_same [] (y ∷ ys) e = absurd cc
-text_same (x ∷ xs) [] e = absurd cc
-text_same (x ∷ xs) (y ∷ ys) e = let h = and_parts (eqb x y) (same_text xs ys) e in let g = text_same xs ys h.1 in let f = eqb-true x y h.0 in cc
-
-pub same_itself : (xs : List ℕ) → same_text xs xs ≡ true
-same_itself [] = refl
-same_itself (x ∷ xs) = and_from (eqb x x) (same_text xs xs) (eq-eqb x x refl) (same_itself xs)
 
 -- ---- the walk
 

@@ -4,12 +4,3 @@ pub mod PlaceLaws
 pub mod SlotLaws
 pub mod BlockWalk
 pub mod SiteLaws
-pub mod Header
-pub mod Room
-pub mod Rows
-pub mod Alike
-pub mod SectionTests
-pub mod Directories
-pub mod Back
-pub mod FileBytes
-pub mod ReadAllowed

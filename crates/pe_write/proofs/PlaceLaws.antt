@@ -13,7 +13,7 @@ use Rattle.chpe_meta.specs.Reading.{bad_places, bad_meta, meta_in, meta_of}
 use Rattle.pe_fields.specs.Space.{rest_at}
 use Rattle.pe_fields.specs.Hybrid.{config_size, meta_pointer, meta_rva, bad_config, bad_code, bad_hybrid}
 use Rattle.pe_fields.proofs.ImportLaws.{first_is}
-use Rattle.pe_write.specs.Places.{same_meta, or_zero, if_some, is_import_place, found_imports, import_place, has_meta, is_config_place, config_place}
+use Rattle.pe_write_laws.specs.Places.{same_meta, or_zero, if_some, is_import_place, found_imports, import_place, has_meta, is_config_place, config_place}
 
 -- ---- the metadata at a place
 
@@ -86,11 +86,11 @@ pub imports_none : (i : Image) → None ≡ first_below (is_import_place i) i.si
 unfolding found_imports
 imports_none i e = ap or_zero e
 
-empty_none : {X : Type 0} (xs : List X) (n : ℕ) → length xs ≡ 0 → 0 ≡ if_some xs n
+pub empty_none : {X : Type 0} (xs : List X) (n : ℕ) → length xs ≡ 0 → 0 ≡ if_some xs n
 empty_none [] n e = refl
 empty_none (x ∷ xs) n e = absurd (omega arith)
 
-some_there : {X : Type 0} (xs : List X) (n : ℕ) → 0 < length xs → n ≡ if_some xs n
+pub some_there : {X : Type 0} (xs : List X) (n : ℕ) → 0 < length xs → n ≡ if_some xs n
 some_there [] n lt = absurd (omega arith)
 some_there (x ∷ xs) n lt = refl
 

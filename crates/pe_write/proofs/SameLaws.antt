@@ -1,7 +1,7 @@
 -- Lists of different lengths differ.
 use Rattle.std.proofs.Common.{◌≡◌, ◌≢◌, ℕ, suc, Bool, true, false, List, [], ◌∷◌, length, refl, sym, ap}
 use Rattle.std.proofs.lemmas.Bool.{and_right}
-use Rattle.pe_write.specs.Places.{same_lists}
+use Rattle.pe_write_laws.specs.Places.{same_lists}
 
 lengths : {X : Type 0} (same : X → X → Bool) (xs ys : List X) → length xs ≢ length ys → same_lists same xs ys ≡ false
 lengths same [] [] ne = absurd (ne refl)

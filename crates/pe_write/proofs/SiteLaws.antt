@@ -10,8 +10,10 @@ use Rattle.pe_fields.specs.Space.{is_mapped, rest_at}
 use Rattle.pe_fields.specs.Imports.{same_text}
 use Rattle.pe_fields.specs.Relocations.{block_size, bad_block, block_sites}
 use Rattle.pe_fields.proofs.ImportLaws.{first_is}
-use Rattle.pe_write.specs.Places.{or_zero, if_some, is_blocks_place, found_blocks, blocks_place, blocks_size, size_at}
-use Rattle.pe_write.proofs.BlockWalk.{text_same, same_itself, Walk, walk_start, walk_next}
+use Rattle.pe_write_laws.specs.Places.{or_zero, if_some, is_blocks_place, found_blocks, blocks_place, blocks_size, size_at}
+use Rattle.pe_write_laws.proofs.Alike.{text_same, same_itself}
+use Rattle.pe_write.proofs.PlaceLaws.{empty_none, some_there}
+use Rattle.pe_write.proofs.BlockWalk.{Walk, walk_start, walk_next}
 
 front_whole : (xs : List ℕ) (n : ℕ) → take n xs ++ drop n xs ≡ xs
 front_whole xs n = take-append-drop n xs
@@ -43,14 +45,6 @@ blocks_first i k e t lt = ap or_zero (first_is (is_blocks_place i) k i.size e t 
 pub blocks_none : (i : Image) → None ≡ first_below (is_blocks_place i) i.size → 0 ≡ found_blocks i
 unfolding found_blocks
 blocks_none i e = ap or_zero e
-
-empty_none : {X : Type 0} (xs : List X) (n : ℕ) → length xs ≡ 0 → 0 ≡ if_some xs n
-empty_none [] n e = refl
-empty_none (x ∷ xs) n e = absurd (omega arith)
-
-some_there : {X : Type 0} (xs : List X) (n : ℕ) → 0 < length xs → n ≡ if_some xs n
-some_there [] n lt = absurd (omega arith)
-some_there (x ∷ xs) n lt = refl
 
 pub blocks_unused : (i : Image) → length i.sites ≡ 0 → 0 ≡ blocks_place i
 blocks_unused i e = empty_none i.sites (found_blocks i) e

@@ -1,7 +1,7 @@
 -- Zeros one by one.
 use Rattle.std.proofs.Common.{◌≡◌, ℕ, ◌+◌, List, [], ◌∷◌, ◌++◌, sym, ap, ◌∙◌}
 use Rattle.std.proofs.lemmas.List.{replicate_more, append-nil, append_assoc}
-use Rattle.pe_write.specs.Format.{zeros}
+use Rattle.pe_write_laws.specs.Format.{zeros}
 
 pub zeros_none : (xs : List ℕ) → xs ≡ xs ++ zeros 0
 unfolding zeros

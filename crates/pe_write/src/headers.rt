@@ -1,8 +1,8 @@
 //! The headers of a file.
 
 ghost use Rattle.std.specs.Prelude.{◌≡◌, ◌+◌, ◌-◌, ◌*◌, ◌/◌, ◌++◌, ◌<◌, ◌≤◌, ◌^◌, length, OnOk};
-ghost use Rattle.pe_write.specs.Places.{import_place, config_place, blocks_place, blocks_size};
-ghost use Rattle.pe_write.specs.Format.{word, dword, qword, zeros, blocks, dos_header, coff_header, headers_size, standard_fields, size_fields, stack_fields, directory, late_directories, directories, optional_header};
+ghost use Rattle.pe_write_laws.specs.Places.{import_place, config_place, blocks_place, blocks_size};
+ghost use Rattle.pe_write_laws.specs.Format.{word, dword, qword, zeros, blocks, dos_header, coff_header, headers_size, standard_fields, size_fields, stack_fields, directory, late_directories, directories, optional_header};
 
 use chpe_types::Image;
 use hx_bits::{Width, write_number};
@@ -54,7 +54,7 @@ pub fn blocks(len: usize) -> usize
     (len + 511) / 512 * 512
 }
 
-#[tactic(auto, unfolding(crate::specs::Format::dos_header))]
+#[tactic(auto, unfolding(pe_write_laws::specs::Format::dos_header))]
 pub fn put_dos_header(out: &mut Vec<u8>) -> Result<(), AllocError>
     ensures { OnOk result (out.new.items ≡ out.old.items ++ dos_header) }
 {
@@ -65,7 +65,7 @@ pub fn put_dos_header(out: &mut Vec<u8>) -> Result<(), AllocError>
 }
 
 /// The signature and the COFF header.
-#[tactic(auto, unfolding(crate::specs::Format::coff_header))]
+#[tactic(auto, unfolding(pe_write_laws::specs::Format::coff_header))]
 pub fn put_coff_header(out: &mut Vec<u8>, image: &Image) -> Result<(), AllocError>
     ensures { OnOk result (out.new.items ≡ out.old.items ++ coff_header image.now) }
 {
@@ -78,7 +78,7 @@ pub fn put_coff_header(out: &mut Vec<u8>, image: &Image) -> Result<(), AllocErro
     Ok(())
 }
 
-#[tactic(auto, unfolding(crate::specs::Format::standard_fields))]
+#[tactic(auto, unfolding(pe_write_laws::specs::Format::standard_fields))]
 fn put_standard_fields(out: &mut Vec<u8>, image: &Image) -> Result<(), AllocError>
     ensures { OnOk result (out.new.items ≡ out.old.items ++ standard_fields image.now) }
 {
@@ -100,7 +100,7 @@ pub fn contents_place(image: &Image) -> usize
     blocks(328 + 40 * image.sections.len())
 }
 
-#[tactic(auto, unfolding(crate::specs::Format::size_fields))]
+#[tactic(auto, unfolding(pe_write_laws::specs::Format::size_fields))]
 fn put_size_fields(out: &mut Vec<u8>, image: &Image) -> Result<(), AllocError>
     requires { length image.now.sections ≤ 94 }
     ensures { OnOk result (out.new.items ≡ out.old.items ++ size_fields image.now) }
@@ -113,7 +113,7 @@ fn put_size_fields(out: &mut Vec<u8>, image: &Image) -> Result<(), AllocError>
     Ok(())
 }
 
-#[tactic(auto, unfolding(crate::specs::Format::stack_fields))]
+#[tactic(auto, unfolding(pe_write_laws::specs::Format::stack_fields))]
 fn put_stack_fields(out: &mut Vec<u8>, image: &Image) -> Result<(), AllocError>
     ensures { OnOk result (out.new.items ≡ out.old.items ++ stack_fields image.now) }
 {
@@ -144,7 +144,7 @@ pub struct Places {
 }
 
 /// The directories after that of the base relocations.
-#[tactic(auto, unfolding(crate::specs::Format::late_directories))]
+#[tactic(auto, unfolding(pe_write_laws::specs::Format::late_directories))]
 fn put_late_directories(out: &mut Vec<u8>, image: &Image, config: u32) -> Result<(), AllocError>
     requires { config ≡ config_place image.now }
     ensures { OnOk result (out.new.items ≡ out.old.items ++ late_directories image.now) }
@@ -155,7 +155,7 @@ fn put_late_directories(out: &mut Vec<u8>, image: &Image, config: u32) -> Result
     Ok(())
 }
 
-#[tactic(auto, unfolding(crate::specs::Format::directories))]
+#[tactic(auto, unfolding(pe_write_laws::specs::Format::directories))]
 fn put_directories(out: &mut Vec<u8>, image: &Image, places: Places) -> Result<(), AllocError>
     requires imports { places.imports ≡ import_place image.now }
     requires blocks { places.blocks ≡ blocks_place image.now }
@@ -171,7 +171,7 @@ fn put_directories(out: &mut Vec<u8>, image: &Image, places: Places) -> Result<(
     Ok(())
 }
 
-#[tactic(auto, unfolding(crate::specs::Format::optional_header))]
+#[tactic(auto, unfolding(pe_write_laws::specs::Format::optional_header))]
 pub fn put_optional_header(
     out: &mut Vec<u8>,
     image: &Image,

@@ -2,7 +2,7 @@
 
 ghost use Rattle.std.specs.Prelude.{◌≡◌, ◌+◌, ◌*◌, ◌++◌, ◌<◌, ◌≤◌, ◌^◌, ◌==◌, ◌&&◌, ℕ, List, length, true, IfOk, IfSome, IfNone};
 ghost use Rattle.file_words.specs.Below.{first_below};
-ghost use Rattle.pe_write.specs.Places.{or_zero, is_import_place, found_imports, import_place, has_meta, is_config_place, config_place, size_at, is_blocks_place, found_blocks, blocks_place, blocks_size};
+ghost use Rattle.pe_write_laws.specs.Places.{or_zero, is_import_place, found_imports, import_place, has_meta, is_config_place, config_place, size_at, is_blocks_place, found_blocks, blocks_place, blocks_size};
 ghost use Rattle.pe_fields.specs.Imports.{same_text};
 ghost use Rattle.pe_fields.specs.Space.{is_mapped};
 

@@ -2,7 +2,7 @@
 
 ghost use Rattle.std.specs.Prelude.{◌≡◌};
 ghost use Rattle.pe_fields.specs.Imports.{same_text};
-ghost use Rattle.pe_write.specs.Places.{same_lists, same_slot, same_range, same_redirect, same_row, same_meta};
+ghost use Rattle.pe_write_laws.specs.Places.{same_lists, same_slot, same_range, same_redirect, same_row, same_meta};
 
 use chpe_types::{CodeRange, FnRow, ImportSlot, Meta, Redirect};
 

@@ -1,8 +1,8 @@
 //! The section table and the contents.
 
 ghost use Rattle.std.specs.Prelude.{◌≡◌, ◌+◌, ◌-◌, ◌*◌, ◌/◌, ◌++◌, ◌<◌, ◌≤◌, ◌^◌, length, OnOk, IfOk};
-ghost use Rattle.pe_write.specs.Format.{dword, zeros, blocks, headers_size, section_row, section_rows, padded, contents_size, contents, dos_header, coff_header, optional_header, headers, image_bytes};
-ghost use Rattle.pe_write.specs.Places.{import_place, config_place, blocks_place, blocks_size};
+ghost use Rattle.pe_write_laws.specs.Format.{dword, zeros, blocks, headers_size, section_row, section_rows, padded, contents_size, contents, dos_header, coff_header, optional_header, headers, image_bytes};
+ghost use Rattle.pe_write_laws.specs.Places.{import_place, config_place, blocks_place, blocks_size};
 
 use crate::headers::{
     Places, blocks, contents_place, put_coff_header, put_dos_header, put_dword,
@@ -30,7 +30,7 @@ fn put_flags(out: &mut Vec<u8>, flags: u32) -> Result<(), AllocError>
 }
 
 /// The header of a section whose contents stand at a place of the file.
-#[tactic(auto, unfolding(crate::specs::Format::section_row))]
+#[tactic(auto, unfolding(pe_write_laws::specs::Format::section_row))]
 fn put_section_row(out: &mut Vec<u8>, place: usize, s: &ImageSection) -> Result<(), AllocError>
     ensures { OnOk result (out.new.items ≡ out.old.items ++ section_row place s.now) }
 {
@@ -60,7 +60,7 @@ fn put_section_rows(
 }
 
 /// Bytes, and zeros up to a multiple of 512.
-#[tactic(auto, unfolding(crate::specs::Format::padded))]
+#[tactic(auto, unfolding(pe_write_laws::specs::Format::padded))]
 fn put_padded(out: &mut Vec<u8>, bytes: &[u8]) -> Result<(), AllocError>
     requires { length bytes.now < 2 ^ 63 }
     ensures { OnOk result (out.new.items ≡ out.old.items ++ padded bytes.now) }
@@ -81,7 +81,7 @@ fn put_contents(out: &mut Vec<u8>, sections: &[ImageSection]) -> Result<(), Allo
 }
 
 /// All that stands before the contents, up to the end of the section table.
-#[tactic(auto, unfolding(crate::specs::Format::headers))]
+#[tactic(auto, unfolding(pe_write_laws::specs::Format::headers))]
 fn put_headers(out: &mut Vec<u8>, image: &Image, places: Places) -> Result<(), AllocError>
     requires count { length image.now.sections ≤ 94 }
     requires room { 4096 + contents_size image.now.sections < 4294967296 }
@@ -99,7 +99,7 @@ fn put_headers(out: &mut Vec<u8>, image: &Image, places: Places) -> Result<(), A
 }
 
 /// The file of an image whose directories are at these places.
-#[tactic(auto, unfolding(crate::specs::Format::image_bytes, crate::specs::Format::padded))]
+#[tactic(auto, unfolding(pe_write_laws::specs::Format::image_bytes, pe_write_laws::specs::Format::padded))]
 pub fn image_file(alloc: Global, image: &Image, places: Places) -> Result<Vec<u8>, AllocError>
     requires count { length image.now.sections ≤ 94 }
     requires room { 4096 + contents_size image.now.sections < 4294967296 }

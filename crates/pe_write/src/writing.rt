@@ -2,8 +2,8 @@
 
 ghost use Rattle.std.specs.Prelude.{◌≡◌, true, IfOk, Ok};
 ghost use Rattle.pe_read.specs.Images.{image_of};
-ghost use Rattle.pe_write.specs.Allowed.{is_allowed};
-ghost use Rattle.pe_write.specs.Format.{image_bytes};
+ghost use Rattle.pe_write_laws.specs.Allowed.{is_allowed};
+ghost use Rattle.pe_write_laws.specs.Format.{image_bytes};
 
 use crate::headers::Places;
 use crate::places::{blocks_place, blocks_size, config_place, import_place};
@@ -13,7 +13,7 @@ use std::alloc::{AllocError, Global};
 
 /// The file of an image that some file has. Its directories stand at the first places of the sections
 /// that read as what the image has; sections' contents follow one another from multiples of 512 on.
-#[tactic(auto, using(crate::proofs::Room::few_sections, crate::proofs::Room::room_for, crate::proofs::Room::mapped_low, crate::proofs::Back::file_read))]
+#[tactic(auto, using(pe_write_laws::proofs::Room::few_sections, pe_write_laws::proofs::Room::room_for, pe_write_laws::proofs::Room::mapped_low, pe_write_laws::proofs::Back::file_read))]
 pub fn write(alloc: Global, i: &Image) -> Result<Vec<u8>, AllocError>
     requires { is_allowed i.now ≡ true }
     ensures written { IfOk result (λ b. b.items ≡ image_bytes i.now) }

@@ -1,5 +1,5 @@
 use Rattle.std.proofs.Common.{◌≡◌, ◌++◌}
-use Rattle.pe_write.specs.Format.{zeros}
+use Rattle.pe_write_laws.specs.Format.{zeros}
 use Rattle.pe_write.proofs.headers.put_zeros.Given as goal
 
 abbrev pub invariant-loop-i : goal.invariant-loop-i

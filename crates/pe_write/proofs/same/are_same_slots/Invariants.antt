@@ -1,5 +1,5 @@
 use Rattle.std.proofs.Common.{◌≡◌, drop}
-use Rattle.pe_write.specs.Places.{same_lists, same_slot}
+use Rattle.pe_write_laws.specs.Places.{same_lists, same_slot}
 use Rattle.pe_write.proofs.same.are_same_slots.Given as goal
 
 abbrev pub invariant-loop-k : goal.invariant-loop-k

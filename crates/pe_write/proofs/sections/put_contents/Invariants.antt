@@ -1,5 +1,5 @@
 use Rattle.std.proofs.Common.{◌≡◌, ◌++◌, ◌<◌, drop}
-use Rattle.pe_write.specs.Format.{contents, contents_size}
+use Rattle.pe_write_laws.specs.Format.{contents, contents_size}
 use Rattle.pe_write.proofs.sections.put_contents.Given as goal
 
 abbrev pub invariant-loop-s : goal.invariant-loop-s

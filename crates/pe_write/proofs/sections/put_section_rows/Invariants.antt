@@ -1,5 +1,5 @@
 use Rattle.std.proofs.Common.{◌≡◌, ◌++◌, ◌+◌, ◌<◌, drop}
-use Rattle.pe_write.specs.Format.{section_rows, contents_size}
+use Rattle.pe_write_laws.specs.Format.{section_rows, contents_size}
 use Rattle.pe_write.proofs.sections.put_section_rows.Given as goal
 
 abbrev pub invariant-loop-s : goal.invariant-loop-s

@@ -8,7 +8,7 @@ use Rattle.chpe_types.specs.declared.image.Image.{Image}
 use Rattle.chpe_types.specs.declared.image.ImageSection.{ImageSection}
 use Rattle.pe_fields.specs.Hybrid.{bad_entry}
 use Rattle.pe_read.specs.Images.{image_of}
-use Rattle.pe_write.specs.Places.{is_import_place, is_blocks_place, is_config_place}
+use Rattle.pe_write_laws.specs.Places.{is_import_place, is_blocks_place, is_config_place}
 
 -- some file, which is bytes, has the image
 abbrev pub IsAllowed : Image → Type 0

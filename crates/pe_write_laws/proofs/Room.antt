@@ -7,8 +7,8 @@ use Rattle.chpe_types.specs.declared.image.Image.{Image}
 use Rattle.chpe_types.specs.declared.image.ImageSection.{ImageSection}
 use Rattle.pe_fields.specs.Space.{has_part, is_mapped}
 use Rattle.pe_fields.specs.Hybrid.{bad_entry}
-use Rattle.pe_write.specs.Allowed.{fits, is_paged, has_numbers, is_byte, is_letter, is_name, has_home, has_contents, lacks_flag, has_rights, is_section, are_placed, has_sections, has_places, is_allowed}
-use Rattle.pe_write.specs.Format.{blocks, contents_size}
+use Rattle.pe_write_laws.specs.Allowed.{fits, is_paged, has_numbers, is_byte, is_letter, is_name, has_home, has_contents, lacks_flag, has_rights, is_section, are_placed, has_sections, has_places, is_allowed}
+use Rattle.pe_write_laws.specs.Format.{blocks, contents_size}
 
 -- ---- one section
 

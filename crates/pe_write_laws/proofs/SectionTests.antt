@@ -9,11 +9,11 @@ use Rattle.chpe_types.specs.declared.image.Image.{Image}
 use Rattle.chpe_types.specs.declared.image.ImageSection.{ImageSection}
 use Rattle.pe_fields.specs.Headers.{pe_place, section_count, section_place, image_size, virtual_size, section_rva, raw_size, raw_place, section_flags, section, sections}
 use Rattle.pe_read.specs.Refusals.{limit, too_large, short, bad_place, bad_section_table, first_place, bad_home, bad_contents, has_flag, bad_rights, bad_section, bad_section_range}
-use Rattle.pe_write.specs.Allowed.{lacks_flag}
-use Rattle.pe_write.specs.Format.{blocks, headers_size, contents_size, image_bytes}
-use Rattle.pe_write.proofs.Header.{pe_place_is, count_is, size_is}
-use Rattle.pe_write.proofs.Room.{Home, Section, Placed, Allowed, first_of, first_here, first_after, placed_at, contents_fit}
-use Rattle.pe_write.proofs.Rows.{Row, row_fields, row_at, rows_has, contents_has, contents_at, contents_within, section_back, file_long}
+use Rattle.pe_write_laws.specs.Allowed.{lacks_flag}
+use Rattle.pe_write_laws.specs.Format.{blocks, headers_size, contents_size, image_bytes}
+use Rattle.pe_write_laws.proofs.Header.{pe_place_is, count_is, size_is}
+use Rattle.pe_write_laws.proofs.Room.{Home, Section, Placed, Allowed, first_of, first_here, first_after, placed_at, contents_fit}
+use Rattle.pe_write_laws.proofs.Rows.{Row, row_fields, row_at, rows_has, contents_has, contents_at, contents_within, section_back, file_long}
 
 -- a section for places past the last
 nowhere : ImageSection

@@ -7,7 +7,7 @@ use Rattle.hx_words.specs.LittleEndian.{bytes_of}
 use Rattle.file_words.specs.Below.{first_below}
 use Rattle.chpe_types.specs.declared.image.Image.{Image}
 use Rattle.chpe_types.specs.declared.image.ImageSection.{ImageSection}
-use Rattle.pe_write.specs.Places.{import_place, config_place, blocks_place, blocks_size}
+use Rattle.pe_write_laws.specs.Places.{import_place, config_place, blocks_place, blocks_size}
 
 abbrev pub word : ℕ → List ℕ
 word n = bytes_of 2 n

@@ -21,12 +21,11 @@ use Rattle.pe_fields.specs.Relocations as blocks
 use Rattle.pe_fields.specs.Hybrid.{config_size, meta_pointer, meta_rva, bad_config, bad_hybrid, bad_entry}
 use Rattle.pe_read.specs.Refusals.{limit, bad_image_size, bad_stack, bad_section_table, first_place, bad_home, bad_contents, has_flag, bad_rights, bad_section, bad_section_range, is_used, is_known, bad_use, bad_directory, bad_import, bad_base_relocation, bad_load_config, header_rva, bad_metadata, bad_entry_point, holds, refusals}
 use Rattle.pe_read.specs.Images.{imports, sites, image_in, image_of}
-use Rattle.pe_write.specs.Places.{same_lists, same_slot, is_import_place, has_sites, size_at, is_blocks_place, has_meta, is_config_place}
-use Rattle.pe_write.specs.Allowed.{fits, is_paged, has_numbers, is_byte, is_letter, is_name, has_home, has_contents, lacks_flag, has_rights, is_section, are_placed, has_sections, where_some, has_places, is_allowed}
-use Rattle.pe_write.proofs.Room.{mapped_between}
-use Rattle.pe_write.proofs.BlockWalk.{same_itself}
-use Rattle.pe_write.proofs.Alike.{slots_itself, meta_itself}
-use Rattle.pe_write.proofs.FileBytes.{bytes_all}
+use Rattle.pe_write_laws.specs.Places.{same_lists, same_slot, is_import_place, has_sites, size_at, is_blocks_place, has_meta, is_config_place}
+use Rattle.pe_write_laws.specs.Allowed.{fits, is_paged, has_numbers, is_byte, is_letter, is_name, has_home, has_contents, lacks_flag, has_rights, is_section, are_placed, has_sections, where_some, has_places, is_allowed}
+use Rattle.pe_write_laws.proofs.Room.{mapped_between}
+use Rattle.pe_write_laws.proofs.Alike.{same_itself, slots_itself, meta_itself}
+use Rattle.pe_write_laws.proofs.FileBytes.{bytes_all}
 
 -- ---- numbers
 

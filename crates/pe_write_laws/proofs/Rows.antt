@@ -11,10 +11,10 @@ use Rattle.file_words.proofs.HasLaws.{has_here, has_left, has_right, has_moved, 
 use Rattle.chpe_types.specs.declared.image.Image.{Image}
 use Rattle.chpe_types.specs.declared.image.ImageSection.{ImageSection}
 use Rattle.pe_fields.specs.Headers.{pe_place, section_place, virtual_size, section_rva, raw_size, raw_place, section_flags, section_name, section_bytes, section}
-use Rattle.pe_write.specs.Allowed.{is_letter, are_placed}
-use Rattle.pe_write.specs.Format.{dword, zeros, blocks, headers_size, dos_header, coff_header, standard_fields, size_fields, stack_fields, late_directories, directories, optional_header, section_row, section_rows, padded, contents_size, contents, headers, image_bytes}
-use Rattle.pe_write.proofs.Header.{four}
-use Rattle.pe_write.proofs.Room.{Section, Placed, placed_parts, placed_at}
+use Rattle.pe_write_laws.specs.Allowed.{is_letter, are_placed}
+use Rattle.pe_write_laws.specs.Format.{dword, zeros, blocks, headers_size, dos_header, coff_header, standard_fields, size_fields, stack_fields, late_directories, directories, optional_header, section_row, section_rows, padded, contents_size, contents, headers, image_bytes}
+use Rattle.pe_write_laws.proofs.Header.{four}
+use Rattle.pe_write_laws.proofs.Room.{Section, Placed, placed_parts, placed_at}
 
 -- ---- lengths
 

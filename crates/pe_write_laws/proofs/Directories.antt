@@ -15,14 +15,13 @@ use Rattle.pe_fields.specs.Relocations as blocks
 use Rattle.pe_fields.specs.Hybrid.{meta_rva, bad_config, bad_hybrid, bad_entry}
 use Rattle.pe_read.specs.Refusals.{is_used, is_known, bad_use, bad_directory, bad_import, bad_base_relocation, bad_load_config, header_rva, bad_metadata, bad_entry_point}
 use Rattle.pe_read.specs.Images.{imports, sites}
-use Rattle.pe_write.specs.Places.{same_lists, same_slot, same_meta, or_zero, if_some, is_import_place, found_imports, import_place, has_sites, size_at, is_blocks_place, found_blocks, blocks_place, blocks_size, has_meta, is_config_place, config_place}
-use Rattle.pe_write.specs.Allowed.{where_some, has_places}
-use Rattle.pe_write.specs.Format.{image_bytes}
-use Rattle.pe_write.proofs.Header.{base_is, entry_is, directory_count_is, import_rva_is, import_size_is, blocks_rva_is, blocks_size_is, config_rva_is, config_size_is, Unused, unused}
-use Rattle.pe_write.proofs.Room.{Allowed, mapped_in}
-use Rattle.pe_write.proofs.BlockWalk.{text_same}
-use Rattle.pe_write.proofs.Alike.{slots_alike, meta_alike}
-use Rattle.pe_write.proofs.SectionTests.{sections_here}
+use Rattle.pe_write_laws.specs.Places.{same_lists, same_slot, same_meta, or_zero, if_some, is_import_place, found_imports, import_place, has_sites, size_at, is_blocks_place, found_blocks, blocks_place, blocks_size, has_meta, is_config_place, config_place}
+use Rattle.pe_write_laws.specs.Allowed.{where_some, has_places}
+use Rattle.pe_write_laws.specs.Format.{image_bytes}
+use Rattle.pe_write_laws.proofs.Header.{base_is, entry_is, directory_count_is, import_rva_is, import_size_is, blocks_rva_is, blocks_size_is, config_rva_is, config_size_is, Unused, unused}
+use Rattle.pe_write_laws.proofs.Room.{Allowed, mapped_in}
+use Rattle.pe_write_laws.proofs.Alike.{text_same, slots_alike, meta_alike}
+use Rattle.pe_write_laws.proofs.SectionTests.{sections_here}
 
 -- ---- the first place that passes
 

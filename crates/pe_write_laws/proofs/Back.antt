@@ -10,12 +10,12 @@ use Rattle.chpe_types.specs.declared.image.Meta.{Meta}
 use Rattle.pe_fields.specs.Headers.{image_size, stack, section_alignment, file_alignment}
 use Rattle.pe_read.specs.Refusals.{limit, bad_dos_magic, bad_magic, bad_machine, bad_optional_size, bad_optional_magic, bad_alignment, bad_image_size, bad_stack, holds, refusals}
 use Rattle.pe_read.specs.Images.{image_in, image_of}
-use Rattle.pe_write.specs.Allowed.{is_allowed}
-use Rattle.pe_write.specs.Format.{image_bytes}
-use Rattle.pe_write.proofs.Header.{dos_magic_is, pe_magic_is, machine_is, optional_size_is, optional_magic_is, section_alignment_is, file_alignment_is, base_is, entry_is, stack_is}
-use Rattle.pe_write.proofs.Room.{Allowed, allowed_is, size_some}
-use Rattle.pe_write.proofs.SectionTests.{size_here, sections_here, large_fails, short_fails, place_fails, table_fails, range_fails}
-use Rattle.pe_write.proofs.Directories.{imports_read, sites_read, meta_read, import_fails, blocks_fail, config_fails, meta_fails, entry_fails, directory_fails}
+use Rattle.pe_write_laws.specs.Allowed.{is_allowed}
+use Rattle.pe_write_laws.specs.Format.{image_bytes}
+use Rattle.pe_write_laws.proofs.Header.{dos_magic_is, pe_magic_is, machine_is, optional_size_is, optional_magic_is, section_alignment_is, file_alignment_is, base_is, entry_is, stack_is}
+use Rattle.pe_write_laws.proofs.Room.{Allowed, allowed_is, size_some}
+use Rattle.pe_write_laws.proofs.SectionTests.{size_here, sections_here, large_fails, short_fails, place_fails, table_fails, range_fails}
+use Rattle.pe_write_laws.proofs.Directories.{imports_read, sites_read, meta_read, import_fails, blocks_fail, config_fails, meta_fails, entry_fails, directory_fails}
 
 dos_fails : (i : Image) → bad_dos_magic (image_bytes i) ≡ false
 unfolding bad_dos_magic

@@ -7,8 +7,17 @@ use Rattle.chpe_types.specs.declared.image.Redirect.{Redirect}
 use Rattle.chpe_types.specs.declared.image.FnRow.{FnRow}
 use Rattle.chpe_types.specs.declared.image.Meta.{Meta}
 use Rattle.pe_fields.specs.Imports.{same_text}
-use Rattle.pe_write.specs.Places.{same_lists, same_slot, same_range, same_redirect, same_row, same_meta}
-use Rattle.pe_write.proofs.BlockWalk.{text_same, same_itself}
+use Rattle.pe_write_laws.specs.Places.{same_lists, same_slot, same_range, same_redirect, same_row, same_meta}
+
+pub text_same : (xs ys : List ℕ) → same_text xs ys ≡ true → xs ≡ ys
+text_same [] [] e = refl
+text_same [] (y ∷ ys) e = absurd cc
+text_same (x ∷ xs) [] e = absurd cc
+text_same (x ∷ xs) (y ∷ ys) e = let h = and_parts (eqb x y) (same_text xs ys) e in let g = text_same xs ys h.1 in let f = eqb-true x y h.0 in cc
+
+pub same_itself : (xs : List ℕ) → same_text xs xs ≡ true
+same_itself [] = refl
+same_itself (x ∷ xs) = and_from (eqb x x) (same_text xs xs) (eq-eqb x x refl) (same_itself xs)
 
 lists_alike : {X : Type 0} (same : X → X → Bool) → ((x y : X) → same x y ≡ true → x ≡ y) → (xs ys : List X) → same_lists same xs ys ≡ true → xs ≡ ys
 lists_alike same sound [] [] h = refl

@@ -7,10 +7,10 @@ use Rattle.hx_words.specs.LittleEndian.{bytes_of, AreBytes}
 use Rattle.hx_words.proofs.LittleEndianLaws.{AreBytes-bytes_of, AreBytes-append}
 use Rattle.chpe_types.specs.declared.image.Image.{Image}
 use Rattle.chpe_types.specs.declared.image.ImageSection.{ImageSection}
-use Rattle.pe_write.specs.Places.{import_place, config_place, blocks_place, blocks_size}
-use Rattle.pe_write.specs.Allowed.{is_byte, is_letter, are_placed}
-use Rattle.pe_write.specs.Format.{word, dword, qword, zeros, blocks, headers_size, dos_header, coff_header, standard_fields, size_fields, stack_fields, directory, late_directories, directories, optional_header, section_row, section_rows, padded, contents, headers, image_bytes}
-use Rattle.pe_write.proofs.Room.{Section, placed_parts}
+use Rattle.pe_write_laws.specs.Places.{import_place, config_place, blocks_place, blocks_size}
+use Rattle.pe_write_laws.specs.Allowed.{is_byte, is_letter, are_placed}
+use Rattle.pe_write_laws.specs.Format.{word, dword, qword, zeros, blocks, headers_size, dos_header, coff_header, standard_fields, size_fields, stack_fields, directory, late_directories, directories, optional_header, section_row, section_rows, padded, contents, headers, image_bytes}
+use Rattle.pe_write_laws.proofs.Room.{Section, placed_parts}
 
 -- ---- lists of bytes
 

@@ -1,9 +1,0 @@
-use Rattle.pe_write.specs.Format.{image_bytes}
-use Rattle.pe_write.proofs.Room.{allowed_is}
-use Rattle.pe_write.proofs.Back.{read_back}
-use Rattle.pe_write.proofs.FileBytes.{file_bytes}
-use Rattle.pe_write.proofs.ReadAllowed.{read_allowed}
-use Rattle.pe_write.proofs.laws.allowed.Goals as goal
-
-pub returns : goal.returns
-returns c = λ i. ((λ h. read_allowed h.0 i h.1 h.2), (λ h. (image_bytes i, (let a = allowed_is i h in file_bytes i a.placed), read_back i h)))
