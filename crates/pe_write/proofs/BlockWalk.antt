@@ -1,16 +1,15 @@
 -- A walk over blocks of base relocations: which sizes are those of a directory with the sites of an image.
-use Rattle.std.proofs.Common.{◌≡◌, ℕ, zero, suc, ◌+◌, ◌-◌, ◌*◌, ◌/◌, ◌%◌, ◌<◌, ◌≤◌, Bool, true, false, cond, not, ◌||◌, ◌&&◌, eqb, ltb, List, [], ◌∷◌, ◌++◌, length, Option, Some, None, refl, sym, ap, subst, ◌∙◌, append_assoc, arith, add-one, inl, inr}
-use Rattle.std.proofs.lemmas.Bool.{both_ways, cases_eq, cases_lt, and_parts, and_cases, and_from, and_left, and_right, or_parts, or_from, not_from_true, not_from_false, lt-ltb, le-ltb, ltb-false, eqb-true, eqb-false, eq-eqb, false_from_ne_true, true_from_ne_false}
+use Rattle.std.proofs.Common.{◌≡◌, ℕ, zero, suc, ◌+◌, ◌-◌, ◌%◌, ◌<◌, ◌≤◌, Bool, true, false, cond, not, ◌&&◌, eqb, ltb, List, [], ◌++◌, length, Option, Some, None, refl, sym, ap, subst, ◌∙◌, append_assoc, arith, add-one, inl, inr}
+use Rattle.std.proofs.lemmas.Bool.{both_ways, cases_eq, cases_lt, and_cases, and_from, and_left, and_right, or_parts, or_from, not_from_true, not_from_false, lt-ltb, le-ltb, ltb-false, eqb-false, false_from_ne_true, true_from_ne_false}
 use Rattle.std.proofs.lemmas.List.{append-nil, append_cancel_left, nil_from_length}
 use Rattle.file_words.specs.Below.{any_below, first_below, or_else, gathered}
-use Rattle.file_words.proofs.BelowLaws.{any_found, any_never, none_below, any_none, any_step, gathered_yes, first_none, first_kept}
+use Rattle.file_words.proofs.BelowLaws.{any_found, any_never, none_below, any_step, gathered_yes, first_none, first_kept}
 use Rattle.chpe_types.specs.declared.image.Image.{Image}
-use Rattle.chpe_types.specs.declared.image.ImageSection.{ImageSection}
 use Rattle.pe_fields.specs.Space.{is_mapped, rest_at}
 use Rattle.pe_fields.specs.Imports.{same_text}
 use Rattle.pe_fields.specs.Relocations.{page_of, block_size, bad_type, entry_count, bad_head, bad_block, block_sites, block_place, is_block, is_bad, bad_relocations, sites_in, sites}
 use Rattle.pe_fields.proofs.ImportLaws.{first_is}
-use Rattle.pe_fields.proofs.BlockLaws.{first_place, next_place, fits, sites_later}
+use Rattle.pe_fields.proofs.BlockLaws.{first_place, next_place, sites_later}
 use Rattle.pe_write_laws.specs.Places.{has_sites, size_at}
 use Rattle.pe_write_laws.proofs.Alike.{text_same, same_itself}
 
@@ -75,8 +74,8 @@ unfolding bad_block bad_head
 good_from r p left g le =
     let eight : 8 ≤ block_size r p = ltb-false (block_size r p) 8 g.some in
     or_from (bad_head r p left) _
-      (or_from (ltb left 8) _ (le-ltb left 8 (omega arith)) (or_from (not (eqb (page_of r p % 4096) 0)) _ g.page (or_from (ltb (block_size r p) 8) _ g.some (or_from (not (eqb (block_size r p % 4) 0)) _ g.whole (le-ltb left (block_size r p) le)))))
-      g.types
+    (or_from (ltb left 8) _ (le-ltb left 8 (omega arith)) (or_from (not (eqb (page_of r p % 4096) 0)) _ g.page (or_from (ltb (block_size r p) 8) _ g.some (or_from (not (eqb (block_size r p % 4) 0)) _ g.whole (le-ltb left (block_size r p) le)))))
+    g.types
 
 -- with fewer bytes left than a block needs, it is refused
 short_bad : (r : List ℕ) (p left : ℕ) → left < block_size r p → bad_block r p left ≡ true
@@ -98,9 +97,9 @@ good_there : (r : List ℕ) (k j : ℕ) → any_below (alone r) k ≡ false → 
 unfolding is_bad is_block
 good_there r k j good = elim (cases_lt j k) [
   | inl lt ↦
-    let own : alone r j ≡ false = none_below (alone r) k j good lt in
-    let g = good_parts r (block_place r j) (block_size r (block_place r j)) own in
-    and_right (ltb (block_place r j) (block_place r k)) _ (good_from r (block_place r j) (block_place r k - block_place r j) g.0 (omega (arith, block_ends r k j lt)))
+      let own : alone r j ≡ false = none_below (alone r) k j good lt in
+      let g = good_parts r (block_place r j) (block_size r (block_place r j)) own in
+      and_right (ltb (block_place r j) (block_place r k)) _ (good_from r (block_place r j) (block_place r k - block_place r j) g.0 (omega (arith, block_ends r k j lt)))
   | inr ge ↦ and_left (ltb (block_place r j) (block_place r k)) _ (le-ltb (block_place r j) (block_place r k) (later r k j ge))
 ]
 
@@ -223,7 +222,7 @@ module _ (i : Image) (a k e : ℕ) (r left : List ℕ) (walk : Walk i a r k e le
   module _ (whole : false ≡ (eqb (length left) 0 && is_mapped i.sections a e)) (lt : e < i.size) (block : false ≡ bad_block r e (i.size - e)) where
     own : alone r k ≡ false
     own = let g = good_parts r e (i.size - e) (sym block) in
-      subst (λ (p : ℕ). bad_block r p (block_size r p) ≡ false) walk.end_is (good_from r e (block_size r e) g.0 (omega arith))
+        subst (λ (p : ℕ). bad_block r p (block_size r p) ≡ false) walk.end_is (good_from r e (block_size r e) g.0 (omega arith))
 
     next_is : e + block_size r e ≡ block_place r (k + 1)
     next_is = next_place r k e walk.end_is
@@ -254,5 +253,5 @@ module _ (i : Image) (a k e : ℕ) (r left : List ℕ) (walk : Walk i a r k e le
     unfolding size_at
     walk_other ys is never = lacks_until i.size whole (λ n low high.
         lacks_text i a n r known (false_from_ne_true (same_text (sites r n) i.sites) (λ t.
-          let b = sites_begin r n (k + 1) (omega (arith, walk.beyond)) (λ j j_lt. omega (arith, later r j k (omega arith), walk.end_is)) in
-          never b.0 (append_cancel_left (sites_before r k) (ys ++ b.0) left (sym (append_assoc (sites_before r k) ys b.0) ∙ ap (λ (xs : List ℕ). xs ++ b.0) (sites_next ys is) ∙ sym b.1 ∙ text_same (sites r n) i.sites t ∙ sym walk.sites_are)))))
+        let b = sites_begin r n (k + 1) (omega (arith, walk.beyond)) (λ j j_lt. omega (arith, later r j k (omega arith), walk.end_is)) in
+        never b.0 (append_cancel_left (sites_before r k) (ys ++ b.0) left (sym (append_assoc (sites_before r k) ys b.0) ∙ ap (λ (xs : List ℕ). xs ++ b.0) (sites_next ys is) ∙ sym b.1 ∙ text_same (sites r n) i.sites t ∙ sym walk.sites_are)))))

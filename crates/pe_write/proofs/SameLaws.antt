@@ -1,5 +1,5 @@
 -- Lists of different lengths differ.
-use Rattle.std.proofs.Common.{◌≡◌, ◌≢◌, ℕ, suc, Bool, true, false, List, [], ◌∷◌, length, refl, sym, ap}
+use Rattle.std.proofs.Common.{◌≡◌, ◌≢◌, suc, Bool, false, List, [], ◌∷◌, length, refl, sym, ap}
 use Rattle.std.proofs.lemmas.Bool.{and_right}
 use Rattle.pe_write_laws.specs.Places.{same_lists}
 

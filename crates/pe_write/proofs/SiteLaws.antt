@@ -1,16 +1,14 @@
 -- Sites that are left, and the places of base relocations.
-use Rattle.std.proofs.Common.{◌≡◌, ℕ, ◌+◌, ◌-◌, ◌<◌, ◌≤◌, ◌&&◌, eqb, true, false, List, [], ◌∷◌, ◌++◌, length, take, drop, Some, None, refl, sym, ap, subst, ◌∙◌, arith}
-use Rattle.std.specs.Prelude.{is_some}
+use Rattle.std.proofs.Common.{◌≡◌, ℕ, ◌+◌, ◌-◌, ◌<◌, ◌&&◌, eqb, true, false, List, ◌++◌, length, take, drop, None, refl, sym, ap, subst, ◌∙◌, arith}
 use Rattle.std.proofs.lemmas.Bool.{both_ways}
 use Rattle.std.proofs.lemmas.List.{length-append, length-drop, take_at, take_all, take-append-drop}
 use Rattle.file_words.specs.Below.{first_below}
 use Rattle.chpe_types.specs.declared.image.Image.{Image}
-use Rattle.chpe_types.specs.declared.image.ImageSection.{ImageSection}
 use Rattle.pe_fields.specs.Space.{is_mapped, rest_at}
 use Rattle.pe_fields.specs.Imports.{same_text}
 use Rattle.pe_fields.specs.Relocations.{block_size, bad_block, block_sites}
 use Rattle.pe_fields.proofs.ImportLaws.{first_is}
-use Rattle.pe_write_laws.specs.Places.{or_zero, if_some, is_blocks_place, found_blocks, blocks_place, blocks_size, size_at}
+use Rattle.pe_write_laws.specs.Places.{or_zero, is_blocks_place, found_blocks, blocks_place, blocks_size, size_at}
 use Rattle.pe_write_laws.proofs.Alike.{text_same, same_itself}
 use Rattle.pe_write.proofs.PlaceLaws.{empty_none, some_there}
 use Rattle.pe_write.proofs.BlockWalk.{Walk, walk_start, walk_next}

@@ -6,7 +6,7 @@ ghost use Rattle.pe_write_laws.specs.Places.{or_zero, is_import_place, found_imp
 ghost use Rattle.pe_fields.specs.Imports.{same_text};
 ghost use Rattle.pe_fields.specs.Space.{is_mapped};
 
-use crate::blocks::{block_fails, block_size, block_sites};
+use crate::blocks::{block_fails, block_sites, block_size};
 use crate::same::{are_same_slots, is_same_meta};
 use chpe_meta::{MetaRefusal, read_meta};
 use chpe_types::Image;

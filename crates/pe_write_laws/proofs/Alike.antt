@@ -1,5 +1,5 @@
 -- Tests of sameness, and what is the same.
-use Rattle.std.proofs.Common.{◌≡◌, ℕ, Bool, true, false, ◌&&◌, eqb, List, [], ◌∷◌, refl, ap}
+use Rattle.std.proofs.Common.{◌≡◌, ℕ, Bool, true, eqb, List, [], ◌∷◌, refl}
 use Rattle.std.proofs.lemmas.Bool.{and_parts, and_from, eqb-true, eq-eqb}
 use Rattle.chpe_types.specs.declared.image.ImportSlot.{ImportSlot}
 use Rattle.chpe_types.specs.declared.image.CodeRange.{CodeRange}

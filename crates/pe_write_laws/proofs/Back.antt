@@ -1,5 +1,5 @@
 -- The file of an image that the tests allow has this image.
-use Rattle.std.proofs.Common.{◌≡◌, ℕ, ◌+◌, ◌%◌, ◌<◌, ◌≤◌, true, false, not, ◌||◌, eqb, ltb, List, Ok, refl, sym, ap, ◌∙◌, arith}
+use Rattle.std.proofs.Common.{◌≡◌, ℕ, ◌%◌, ◌≤◌, true, false, not, ◌||◌, eqb, ltb, List, Ok, refl, ap, ◌∙◌, arith}
 use Rattle.std.proofs.lemmas.Bool.{or_from, le-ltb, ne_eqb, eq-eqb, not_from_true}
 use Rattle.file_words.specs.Firsts.{NoneHolds}
 use Rattle.file_words.proofs.FirstLaws.{first_accepts}
@@ -7,7 +7,7 @@ use Rattle.chpe_types.specs.declared.image.Image.{Image}
 use Rattle.chpe_types.specs.declared.image.ImageSection.{ImageSection}
 use Rattle.chpe_types.specs.declared.image.ImportSlot.{ImportSlot}
 use Rattle.chpe_types.specs.declared.image.Meta.{Meta}
-use Rattle.pe_fields.specs.Headers.{image_size, stack, section_alignment, file_alignment}
+use Rattle.pe_fields.specs.Headers.{image_size, section_alignment}
 use Rattle.pe_read.specs.Refusals.{limit, bad_dos_magic, bad_magic, bad_machine, bad_optional_size, bad_optional_magic, bad_alignment, bad_image_size, bad_stack, holds, refusals}
 use Rattle.pe_read.specs.Images.{image_in, image_of}
 use Rattle.pe_write_laws.specs.Allowed.{is_allowed}
@@ -49,16 +49,47 @@ unfolding bad_image_size
 size_fails i a =
     let same = size_here i a in
     or_from (eqb (image_size (image_bytes i)) 0) _ (ne_eqb (image_size (image_bytes i)) 0 (λ e. omega (arith, same, size_some i a)))
-      (ap (λ (n : ℕ). not (eqb (n % 4096) 0) || ltb limit n) same ∙ paged limit i.size a.page a.most)
+    (ap (λ (n : ℕ). not (eqb (n % 4096) 0) || ltb limit n) same ∙ paged limit i.size a.page a.most)
 
 stack_fails : (i : Image) (a : Allowed i) → bad_stack (image_bytes i) ≡ false
 unfolding bad_stack
 stack_fails i a = ap (λ (n : ℕ). not (eqb (n % 4096) 0) || ltb 268435456 n) (stack_is i (omega (arith, a.stack_most))) ∙ paged 268435456 i.stack a.stack_page a.stack_most
 
 none_hold : (i : Image) (a : Allowed i) → NoneHolds (holds (image_bytes i)) refusals
-none_hold i a =
-    (large_fails i a, (short_fails i a, (dos_fails i, (place_fails i a, (magic_fails i, (machine_fails i, (optional_size_fails i, (optional_magic_fails i, (alignment_fails i, (size_fails i a, (stack_fails i a,
-      (table_fails i a, (range_fails i a, (directory_fails i a, (import_fails i a, (blocks_fail i a, (config_fails i a, (meta_fails i a, (entry_fails i a, tt)))))))))))))))))))
+none_hold i a = (
+  large_fails i a,
+  (
+    short_fails i a,
+    (
+      dos_fails i,
+      (
+        place_fails i a,
+        (
+          magic_fails i,
+          (
+            machine_fails i,
+            (
+              optional_size_fails i,
+              (
+                optional_magic_fails i,
+                (
+                  alignment_fails i,
+                  (
+                    size_fails i a,
+                    (
+                      stack_fails i a,
+                      (table_fails i a, (range_fails i a, (directory_fails i a, (import_fails i a, (blocks_fail i a, (config_fails i a, (meta_fails i a, (entry_fails i a, tt)))))))),
+                    ),
+                  ),
+                ),
+              ),
+            ),
+          ),
+        ),
+      ),
+    ),
+  ),
+)
 
 same_image : (b z e k : ℕ) (ss : List ImageSection) (ns : List ImportSlot) (ps : List ℕ) (m : Meta) (i : Image) → b ≡ i.base → z ≡ i.size → e ≡ i.entry → k ≡ i.stack → ss ≡ i.sections → ns ≡ i.imports → ps ≡ i.sites → m ≡ i.meta → (let x : Image = record { base = b; size = z; entry = e; stack = k; sections = ss; imports = ns; sites = ps; meta = m } in x) ≡ i
 same_image b z e k ss ns ps m i h1 h2 h3 h4 h5 h6 h7 h8 = rw (h1, h2, h3, h4, h5, h6, h7, h8) refl

@@ -1,24 +1,23 @@
 -- The directories of a written file are read as the image's imports, sites and metadata.
-use Rattle.std.proofs.Common.{◌≡◌, ℕ, zero, suc, ◌+◌, ◌*◌, ◌<◌, ◌≤◌, Bool, true, false, cond, not, ◌||◌, ◌&&◌, eqb, List, [], ◌∷◌, Option, Some, None, refl, sym, ap, subst, ◌∙◌, arith, inl, inr, ◌⊎◌}
+use Rattle.std.proofs.Common.{◌≡◌, ℕ, zero, suc, ◌<◌, Bool, true, false, cond, not, eqb, List, [], ◌∷◌, Option, Some, None, refl, sym, ap, ◌∙◌, arith, inl, inr, ◌⊎◌}
 use Rattle.std.specs.Prelude.{is_some}
-use Rattle.std.proofs.lemmas.Bool.{and_parts, and_left, and_right, or_from, not-true, not_from_true, ne_eqb, eq-eqb, cond-true, cond-false}
+use Rattle.std.proofs.lemmas.Bool.{and_parts, and_left, and_right, or_from, not-true, not_from_true, ne_eqb, cond-true, cond-false}
 use Rattle.file_words.specs.Below.{any_below, first_below, or_else}
 use Rattle.chpe_types.specs.declared.image.Image.{Image}
 use Rattle.chpe_types.specs.declared.image.ImageSection.{ImageSection}
-use Rattle.chpe_types.specs.declared.image.ImportSlot.{ImportSlot}
 use Rattle.chpe_types.specs.declared.image.Meta.{Meta}
 use Rattle.chpe_meta.specs.Reading.{meta_in}
 use Rattle.pe_fields.specs.Headers.{base, sections, entry, directory_count, directory_rva, directory_size}
 use Rattle.pe_fields.specs.Space.{is_mapped, rest_at}
-use Rattle.pe_fields.specs.Imports.{same_text, bad_imports, slots}
+use Rattle.pe_fields.specs.Imports.{bad_imports, slots}
 use Rattle.pe_fields.specs.Relocations as blocks
 use Rattle.pe_fields.specs.Hybrid.{meta_rva, bad_config, bad_hybrid, bad_entry}
 use Rattle.pe_read.specs.Refusals.{is_used, is_known, bad_use, bad_directory, bad_import, bad_base_relocation, bad_load_config, header_rva, bad_metadata, bad_entry_point}
 use Rattle.pe_read.specs.Images.{imports, sites}
-use Rattle.pe_write_laws.specs.Places.{same_lists, same_slot, same_meta, or_zero, if_some, is_import_place, found_imports, import_place, has_sites, size_at, is_blocks_place, found_blocks, blocks_place, blocks_size, has_meta, is_config_place, config_place}
+use Rattle.pe_write_laws.specs.Places.{or_zero, if_some, is_import_place, found_imports, import_place, has_sites, size_at, is_blocks_place, found_blocks, blocks_place, blocks_size, has_meta, is_config_place, config_place}
 use Rattle.pe_write_laws.specs.Allowed.{where_some, has_places}
 use Rattle.pe_write_laws.specs.Format.{image_bytes}
-use Rattle.pe_write_laws.proofs.Header.{base_is, entry_is, directory_count_is, import_rva_is, import_size_is, blocks_rva_is, blocks_size_is, config_rva_is, config_size_is, Unused, unused}
+use Rattle.pe_write_laws.proofs.Header.{base_is, entry_is, directory_count_is, import_rva_is, import_size_is, blocks_rva_is, blocks_size_is, config_rva_is, config_size_is, unused}
 use Rattle.pe_write_laws.proofs.Room.{Allowed, mapped_in}
 use Rattle.pe_write_laws.proofs.Alike.{text_same, slots_alike, meta_alike}
 use Rattle.pe_write_laws.proofs.SectionTests.{sections_here}
@@ -115,9 +114,10 @@ no_imports i b e none = (and_left (is_used b 1) _ (unused_is b 1 e), cond-false 
 
 some_imports : (i : Image) (b : List ℕ) (a : ℕ) → sections b ≡ i.sections → directory_rva b 1 ≡ a → directory_size b 1 ≡ 40 → 0 < a → bad_imports i.sections a 40 ≡ false → slots i.sections a ≡ i.imports → (bad_import b ≡ false) × (imports b ≡ i.imports)
 unfolding bad_import imports
-some_imports i b a same rva size lt good are =
-    (and_right (is_used b 1) _ (imports_same (sections b) i.sections (directory_rva b 1) a (directory_size b 1) 40 same rva size ∙ good),
-     cond-true (is_used b 1) (slots (sections b) (directory_rva b 1)) [] (used_is b 1 a rva lt) ∙ slots_same (sections b) i.sections (directory_rva b 1) a same rva ∙ are)
+some_imports i b a same rva size lt good are = (
+  and_right (is_used b 1) _ (imports_same (sections b) i.sections (directory_rva b 1) a (directory_size b 1) 40 same rva size ∙ good),
+  cond-true (is_used b 1) (slots (sections b) (directory_rva b 1)) [] (used_is b 1 a rva lt) ∙ slots_same (sections b) i.sections (directory_rva b 1) a same rva ∙ are,
+)
 
 record ImportPlace (i : Image) (a : ℕ) : Type 0 where
   there : is_mapped i.sections a 40 ≡ true
@@ -138,9 +138,10 @@ no_blocks i b e none = (and_left (is_used b 5) _ (unused_is b 5 e), cond-false (
 
 some_blocks : (i : Image) (b : List ℕ) (a n : ℕ) → sections b ≡ i.sections → directory_rva b 5 ≡ a → directory_size b 5 ≡ n → 0 < a → blocks.bad_relocations (rest_at i.sections a) n ≡ false → blocks.sites (rest_at i.sections a) n ≡ i.sites → (bad_base_relocation b ≡ false) × (sites b ≡ i.sites)
 unfolding bad_base_relocation sites
-some_blocks i b a n same rva size lt good are =
-    (and_right (is_used b 5) _ (blocks_same (sections b) i.sections (directory_rva b 5) a (directory_size b 5) n same rva size ∙ good),
-     cond-true (is_used b 5) (blocks.sites (rest_at (sections b) (directory_rva b 5)) (directory_size b 5)) [] (used_is b 5 a rva lt) ∙ sites_same (sections b) i.sections (directory_rva b 5) a (directory_size b 5) n same rva size ∙ are)
+some_blocks i b a n same rva size lt good are = (
+  and_right (is_used b 5) _ (blocks_same (sections b) i.sections (directory_rva b 5) a (directory_size b 5) n same rva size ∙ good),
+  cond-true (is_used b 5) (blocks.sites (rest_at (sections b) (directory_rva b 5)) (directory_size b 5)) [] (used_is b 5 a rva lt) ∙ sites_same (sections b) i.sections (directory_rva b 5) a (directory_size b 5) n same rva size ∙ are,
+)
 
 record BlocksPlace (i : Image) (a n : ℕ) : Type 0 where
   there : is_mapped i.sections a n ≡ true
@@ -215,10 +216,12 @@ module _ (i : Image) (a : Allowed i) where
   with_imports n e h lt =
       let p = import_place_is i n h in
       let low = mapped_in i a n 40 p.there in
+      let some : 0 < n = omega (arith, low.0) in
       let rva : directory_rva (image_bytes i) 1 ≡ n = import_rva_is i (omega (arith, a.most)) ∙ e in
-      let size_40 : cond (eqb (import_place i) 0) 0 40 ≡ 40 = size_used (import_place i) 40 (omega (arith, low.0)) in
-      let size : directory_size (image_bytes i) 1 ≡ 40 = import_size_is i (omega (arith, size_40)) ∙ size_40 in
-      let g = some_imports i (image_bytes i) n (sections_here i a) rva size (omega (arith, low.0)) p.good p.are in
+      let size_40 : cond (eqb (import_place i) 0) 0 40 ≡ 40 = size_used (import_place i) 40 (omega (arith, e, some)) in
+      let small : cond (eqb (import_place i) 0) 0 40 < 4294967296 = omega (arith, size_40) in
+      let size : directory_size (image_bytes i) 1 ≡ 40 = import_size_is i small ∙ size_40 in
+      let g = some_imports i (image_bytes i) n (sections_here i a) rva size some p.good p.are in
       record { used = good_use (image_bytes i) 1 refl (mapped_same (sections (image_bytes i)) i.sections (directory_rva (image_bytes i) 1) n (directory_size (image_bytes i) 1) 40 (sections_here i a) rva size ∙ p.there); good = g.0; are = g.1 }
 
   without_imports : import_place i ≡ 0 → i.imports ≡ [] → Imports i
@@ -265,9 +268,9 @@ module _ (i : Image) (a : Allowed i) where
       elim (used_or i.sites (found_blocks i) (is_some (first_below (is_blocks_place i) i.size)) n.sites) [
         | inl none ↦ without_blocks none.1 none.0
         | inr some ↦
-          let f = blocks_found some.0 in
-          let s = size_found (found_blocks i) f.0 in
-          with_blocks (found_blocks i) (or_zero (size_at i (found_blocks i))) some.1 (λ lt. if_same i.sites (found_blocks i) (or_zero (size_at i (found_blocks i))) lt some.1) s.0 f.1 s.1
+            let f = blocks_found some.0 in
+            let s = size_found (found_blocks i) f.0 in
+            with_blocks (found_blocks i) (or_zero (size_at i (found_blocks i))) some.1 (λ lt. if_same i.sites (found_blocks i) (or_zero (size_at i (found_blocks i))) lt some.1) s.0 f.1 s.1
       ]
 
   config_found : is_some (first_below (is_config_place i) i.size) ≡ true → (is_config_place i (config_place i) ≡ true) × (config_place i < i.size)
@@ -278,14 +281,16 @@ module _ (i : Image) (a : Allowed i) where
   with_config h lt =
       let p = config_place_is i (config_place i) h in
       let low = mapped_in i a (config_place i) 208 p.there in
+      let some : 0 < config_place i = omega (arith, low.0) in
       let at : base (image_bytes i) ≡ i.base = base_is i a.base in
       let rva : directory_rva (image_bytes i) 10 ≡ config_place i = config_rva_is i (omega (arith, a.most)) in
-      let size_208 : cond (eqb (config_place i) 0) 0 208 ≡ 208 = size_used (config_place i) 208 (omega (arith, low.0)) in
-      let size : directory_size (image_bytes i) 10 ≡ 208 = config_size_is i (omega (arith, size_208)) ∙ size_208 in
+      let size_208 : cond (eqb (config_place i) 0) 0 208 ≡ 208 = size_used (config_place i) 208 some in
+      let small : cond (eqb (config_place i) 0) 0 208 < 4294967296 = omega (arith, size_208) in
+      let size : directory_size (image_bytes i) 10 ≡ 208 = config_size_is i small ∙ size_208 in
       let header : header_rva (image_bytes i) ≡ meta_rva i.sections i.base (config_place i) = header_at (image_bytes i) i.sections (config_place i) i.base (sections_here i a) at rva in
       record {
         used = good_use (image_bytes i) 10 refl (mapped_same (sections (image_bytes i)) i.sections (directory_rva (image_bytes i) 10) (config_place i) (directory_size (image_bytes i) 10) 208 (sections_here i a) rva size ∙ p.there);
-        good = config_used (image_bytes i) i.sections (config_place i) i.base (sections_here i a) at rva size (omega (arith, low.0)) p.good;
+        good = config_used (image_bytes i) i.sections (config_place i) i.base (sections_here i a) at rva size some p.good;
         hybrid = hybrid_same (image_bytes i) i.sections (meta_rva i.sections i.base (config_place i)) (sections_here i a) header ∙ p.hybrid;
         is = meta_same (sections (image_bytes i)) i.sections (header_rva (image_bytes i)) (meta_rva i.sections i.base (config_place i)) (sections_here i a) header ∙ p.is;
       }
@@ -328,5 +333,5 @@ module _ (i : Image) (a : Allowed i) where
       let y = sites_here in
       let z = config_here in
       or_from (not (eqb (directory_count (image_bytes i)) 16)) _ (ap (λ (n : ℕ). not (eqb n 16)) (directory_count_is i))
-        (sixteen (bad_use (image_bytes i)) (no_use (image_bytes i) 0 u.d0) x.used (no_use (image_bytes i) 2 u.d2) (no_use (image_bytes i) 3 u.d3) (no_use (image_bytes i) 4 u.d4) y.used (no_use (image_bytes i) 6 u.d6) (no_use (image_bytes i) 7 u.d7)
-          (no_use (image_bytes i) 8 u.d8) (no_use (image_bytes i) 9 u.d9) z.used (no_use (image_bytes i) 11 u.d11) (no_use (image_bytes i) 12 u.d12) (no_use (image_bytes i) 13 u.d13) (no_use (image_bytes i) 14 u.d14) (no_use (image_bytes i) 15 u.d15))
+      (sixteen (bad_use (image_bytes i)) (no_use (image_bytes i) 0 u.d0) x.used (no_use (image_bytes i) 2 u.d2) (no_use (image_bytes i) 3 u.d3) (no_use (image_bytes i) 4 u.d4) y.used (no_use (image_bytes i) 6 u.d6) (no_use (image_bytes i) 7 u.d7)
+      (no_use (image_bytes i) 8 u.d8) (no_use (image_bytes i) 9 u.d9) z.used (no_use (image_bytes i) 11 u.d11) (no_use (image_bytes i) 12 u.d12) (no_use (image_bytes i) 13 u.d13) (no_use (image_bytes i) 14 u.d14) (no_use (image_bytes i) 15 u.d15))

@@ -1,9 +1,8 @@
 -- The fields of the headers of a written file, as they are read.
-use Rattle.std.proofs.Common.{◌≡◌, ℕ, ◌+◌, ◌*◌, ◌/◌, ◌%◌, ◌<◌, ◌≤◌, Bool, cond, eqb, List, [], ◌∷◌, ◌++◌, length, refl, ap, ◌∙◌, arith}
+use Rattle.std.proofs.Common.{◌≡◌, ℕ, ◌+◌, ◌*◌, ◌/◌, ◌%◌, ◌<◌, cond, eqb, List, length, refl, ap, ◌∙◌, arith}
 use Rattle.hx_words.specs.LittleEndian.{bytes_of}
 use Rattle.file_words.specs.Fields.{byte_of, word_of, dword_of}
 use Rattle.chpe_types.specs.declared.image.Image.{Image}
-use Rattle.chpe_types.specs.declared.image.ImageSection.{ImageSection}
 use Rattle.pe_fields.specs.Headers.{qword_of, dos_magic, pe_place, pe_magic, machine, section_count, optional_size, optional_magic, entry, base, section_alignment, file_alignment, image_size, stack, directory_count, directory_rva, directory_size}
 use Rattle.pe_write_laws.specs.Places.{import_place, config_place, blocks_place, blocks_size}
 use Rattle.pe_write_laws.specs.Format.{zeros, dos_header, coff_header, standard_fields, size_fields, stack_fields, late_directories, directories, optional_header, padded, headers, image_bytes}

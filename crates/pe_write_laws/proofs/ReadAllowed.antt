@@ -1,8 +1,8 @@
 -- The image that a file has is one that the tests allow.
-use Rattle.std.proofs.Common.{◌≡◌, ℕ, zero, suc, ◌+◌, ◌-◌, ◌*◌, ◌/◌, ◌%◌, ◌<◌, ◌≤◌, Bool, true, false, cond, not, ◌||◌, ◌&&◌, eqb, ltb, leb, List, [], ◌∷◌, ◌++◌, length, get_or, take, drop, Option, Some, None, Ok, refl, sym, ap, subst, ◌∙◌, arith, inl, inr}
+use Rattle.std.proofs.Common.{◌≡◌, ℕ, zero, suc, ◌+◌, ◌%◌, ◌<◌, ◌≤◌, Bool, true, false, cond, not, ◌||◌, ◌&&◌, eqb, ltb, leb, List, [], ◌∷◌, ◌++◌, length, get_or, take, drop, Option, Some, None, Ok, refl, sym, ap, subst, ◌∙◌, arith, inl, inr}
 use Rattle.std.specs.Prelude.{min, bit_and, is_some}
 use Rattle.std.specs.List.{list_all, list_any, position_or_len}
-use Rattle.std.proofs.lemmas.Bool.{and_parts, and_from, or_parts, or_from, or_cases, or_left, or_right, not-false, not_from_false, not_from_true, ltb-false, ltb-true, lt-ltb, le-ltb, le-leb, leb-true, eqb-true, eq-eqb, cond-true, cond-false, cases_Bool, cases_eq, cases_lt}
+use Rattle.std.proofs.lemmas.Bool.{and_parts, and_from, or_parts, or_cases, or_left, or_right, not-false, not_from_false, ltb-false, lt-ltb, le-leb, leb-true, eqb-true, cond-true, cond-false, cases_Bool, cases_eq, cases_lt}
 use Rattle.std.proofs.lemmas.List.{length-take}
 use Rattle.hx_words.specs.LittleEndian.{AreBytes}
 use Rattle.hx_words.proofs.LittleEndianLaws.{AreBytes-take, AreBytes-drop}
@@ -16,13 +16,13 @@ use Rattle.chpe_types.specs.declared.image.ImageSection.{ImageSection}
 use Rattle.chpe_meta.specs.Reading.{meta_in}
 use Rattle.pe_fields.specs.Headers.{qword_of, base, entry, image_size, stack, section_count, section_rva, virtual_size, raw_size, raw_place, section_flags, section_place, section_name, section_bytes, section, sections, directory_rva, directory_size}
 use Rattle.pe_fields.specs.Space.{has_part, is_mapped, rest_at}
-use Rattle.pe_fields.specs.Imports.{same_text, is_more, bad_imports, slots}
+use Rattle.pe_fields.specs.Imports.{same_text, bad_imports, slots}
 use Rattle.pe_fields.specs.Relocations as blocks
-use Rattle.pe_fields.specs.Hybrid.{config_size, meta_pointer, meta_rva, bad_config, bad_hybrid, bad_entry}
-use Rattle.pe_read.specs.Refusals.{limit, bad_image_size, bad_stack, bad_section_table, first_place, bad_home, bad_contents, has_flag, bad_rights, bad_section, bad_section_range, is_used, is_known, bad_use, bad_directory, bad_import, bad_base_relocation, bad_load_config, header_rva, bad_metadata, bad_entry_point, holds, refusals}
+use Rattle.pe_fields.specs.Hybrid.{meta_rva, bad_config, bad_hybrid, bad_entry}
+use Rattle.pe_read.specs.Refusals.{bad_image_size, bad_stack, bad_section_table, first_place, bad_home, bad_contents, has_flag, bad_rights, bad_section, bad_section_range, is_used, is_known, bad_use, bad_directory, bad_import, bad_base_relocation, bad_load_config, header_rva, bad_metadata, bad_entry_point, holds, refusals}
 use Rattle.pe_read.specs.Images.{imports, sites, image_in, image_of}
 use Rattle.pe_write_laws.specs.Places.{same_lists, same_slot, is_import_place, has_sites, size_at, is_blocks_place, has_meta, is_config_place}
-use Rattle.pe_write_laws.specs.Allowed.{fits, is_paged, has_numbers, is_byte, is_letter, is_name, has_home, has_contents, lacks_flag, has_rights, is_section, are_placed, has_sections, where_some, has_places, is_allowed}
+use Rattle.pe_write_laws.specs.Allowed.{fits, is_paged, has_numbers, is_byte, is_letter, is_name, has_home, has_contents, has_rights, is_section, are_placed, has_sections, where_some, has_places, is_allowed}
 use Rattle.pe_write_laws.proofs.Room.{mapped_between}
 use Rattle.pe_write_laws.proofs.Alike.{same_itself, slots_itself, meta_itself}
 use Rattle.pe_write_laws.proofs.FileBytes.{bytes_all}
@@ -172,7 +172,7 @@ placed_table b zero h good = refl
 placed_table b (suc n) h good =
     let f = good n (omega arith) in
     placed_push (image_size b) 4096 (table (section b) n) (section b n) (placed_table b n h (λ j lt. good j (omega arith)))
-      (ap (λ (p : ℕ). has_home (image_size b) p (section b n)) (ends_there b n) ∙ home_had b n f) (section_had b n h f)
+    (ap (λ (p : ℕ). has_home (image_size b) p (section b n)) (ends_there b n) ∙ home_had b n f) (section_had b n h f)
 
 pub all_placed : (b : List ℕ) → AreBytes b → bad_section_range b ≡ false → are_placed (image_size b) 4096 (sections b) ≡ true
 unfolding bad_section_range sections
@@ -219,8 +219,8 @@ wider : (ss : List ImageSection) (a m n : ℕ) → m ≤ n → list_any (has_par
 wider [] a m n le h = absurd cc
 wider (s ∷ ss) a m n le h = elim (or_cases (has_part a n s) (list_any (has_part a n) ss) h) [
   | inl here ↦
-    let g = and_parts (leb s.rva a) (leb (a + n) (s.rva + s.size)) here in
-    or_left (has_part a m s) _ (and_from (leb s.rva a) _ g.0 (le-leb (a + m) (s.rva + s.size) (omega (arith, leb-true (a + n) (s.rva + s.size) g.1))))
+      let g = and_parts (leb s.rva a) (leb (a + n) (s.rva + s.size)) here in
+      or_left (has_part a m s) _ (and_from (leb s.rva a) _ g.0 (le-leb (a + m) (s.rva + s.size) (omega (arith, leb-true (a + n) (s.rva + s.size) g.1))))
   | inr later ↦ or_right (has_part a m s) _ (wider ss a m n le later)
 ]
 
@@ -316,9 +316,9 @@ module _ (b : List ℕ) (h : AreBytes b) (range : bad_section_range b ≡ false)
   sites_had f = elim (cases_Bool (is_used b 5)) [
     | inl used ↦ elim (cases_lt 0 (directory_size b 5)) [
       | inl some ↦
-        let low = within (directory_rva b 5) (directory_size b 5) (there 5 (omega arith) used) in
-        where_found (sites b) (is_some (first_below (is_blocks_place (image_in b)) (image_size b)))
-        (first_some (is_blocks_place (image_in b)) (image_size b) (directory_rva b 5) (omega (arith, low.1)) (size_found f used))
+          let low = within (directory_rva b 5) (directory_size b 5) (there 5 (omega arith) used) in
+          where_found (sites b) (is_some (first_below (is_blocks_place (image_in b)) (image_size b)))
+          (first_some (is_blocks_place (image_in b)) (image_size b) (directory_rva b 5) (omega (arith, low.1)) (size_found f used))
       | inr none ↦ where_none (sites b) (is_some (first_below (is_blocks_place (image_in b)) (image_size b))) (empty_sites used (omega arith))
     ]
     | inr not_used ↦ where_none (sites b) (is_some (first_below (is_blocks_place (image_in b)) (image_size b))) (no_sites not_used)

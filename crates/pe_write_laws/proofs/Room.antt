@@ -1,13 +1,12 @@
 -- What the tests of an image say, and that its file has room for it.
-use Rattle.std.proofs.Common.{◌≡◌, ℕ, zero, suc, ◌+◌, ◌*◌, ◌/◌, ◌%◌, ◌<◌, ◌≤◌, Bool, true, false, not, ◌&&◌, eqb, ltb, leb, List, [], ◌∷◌, ◌++◌, length, get_or, take, refl, sym, ap, ◌∙◌, arith, inl, inr}
-use Rattle.std.specs.Prelude.{bit_and}
+use Rattle.std.proofs.Common.{◌≡◌, ℕ, zero, suc, ◌+◌, ◌%◌, ◌<◌, ◌≤◌, true, false, not, ◌&&◌, eqb, ltb, leb, List, [], ◌∷◌, length, get_or, refl, arith, inl, inr}
 use Rattle.std.specs.List.{list_all, list_any}
 use Rattle.std.proofs.lemmas.Bool.{and_parts, or_cases, not-true, leb-true, ltb-true, eqb-true, eqb-false}
 use Rattle.chpe_types.specs.declared.image.Image.{Image}
 use Rattle.chpe_types.specs.declared.image.ImageSection.{ImageSection}
 use Rattle.pe_fields.specs.Space.{has_part, is_mapped}
 use Rattle.pe_fields.specs.Hybrid.{bad_entry}
-use Rattle.pe_write_laws.specs.Allowed.{fits, is_paged, has_numbers, is_byte, is_letter, is_name, has_home, has_contents, lacks_flag, has_rights, is_section, are_placed, has_sections, has_places, is_allowed}
+use Rattle.pe_write_laws.specs.Allowed.{fits, is_paged, has_numbers, is_byte, is_letter, is_name, has_home, has_contents, lacks_flag, is_section, are_placed, has_sections, has_places, is_allowed}
 use Rattle.pe_write_laws.specs.Format.{blocks, contents_size}
 
 -- ---- one section
@@ -82,8 +81,8 @@ mapped_between size first (s ∷ ss) rva n h m =
     let p = placed_parts size first s ss h in
     elim (or_cases (has_part rva n s) (list_any (has_part rva n) ss) m) [
       | inl here ↦
-        let g = and_parts (leb s.rva rva) (leb (rva + n) (s.rva + s.size)) here in
-        (omega (arith, leb-true s.rva rva g.0, p.0.home.starts), omega (arith, leb-true (rva + n) (s.rva + s.size) g.1, p.0.home.ends))
+          let g = and_parts (leb s.rva rva) (leb (rva + n) (s.rva + s.size)) here in
+          (omega (arith, leb-true s.rva rva g.0, p.0.home.starts), omega (arith, leb-true (rva + n) (s.rva + s.size) g.1, p.0.home.ends))
       | inr later ↦ let k = mapped_between size (s.rva + s.size) ss rva n p.1 later in (omega (arith, k.0, p.0.home.starts), k.1)
     ]
 
@@ -133,10 +132,17 @@ allowed_is i h =
     let stack = paged 268435456 i.stack o.0 in
     let full = eqb-false (length i.sections) 0 (not-true (eqb (length i.sections) 0) s.0) in
     record {
-      page = size.0; most = size.1; stack_page = stack.0; stack_most = stack.1;
-      base = ltb-true i.base 18446744073709551616 p.0; entry = ltb-true i.entry 4294967296 p.1;
-      some = omega (arith, full); few = leb-true (length i.sections) 94 t.0; placed = t.1;
-      places = c.0; starts = not-true (bad_entry i.meta i.entry) c.1;
+      page = size.0;
+      most = size.1;
+      stack_page = stack.0;
+      stack_most = stack.1;
+      base = ltb-true i.base 18446744073709551616 p.0;
+      entry = ltb-true i.entry 4294967296 p.1;
+      some = omega (arith, full);
+      few = leb-true (length i.sections) 94 t.0;
+      placed = t.1;
+      places = c.0;
+      starts = not-true (bad_entry i.meta i.entry) c.1;
     }
 
 some_size : (size first : ℕ) (ss : List ImageSection) → 0 < length ss → are_placed size first ss ≡ true → first < size

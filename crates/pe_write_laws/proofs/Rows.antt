@@ -1,6 +1,6 @@
 -- The section table and the contents of a written file, as they are read.
-use Rattle.std.proofs.Common.{◌≡◌, ℕ, zero, suc, ◌+◌, ◌-◌, ◌*◌, ◌/◌, ◌%◌, ◌<◌, ◌≤◌, Bool, true, false, cond, not, ◌&&◌, eqb, List, [], ◌∷◌, ◌++◌, length, get_or, take, drop, refl, sym, ap, subst, ◌∙◌, append_assoc, arith}
-use Rattle.std.specs.Prelude.{replicate, min}
+use Rattle.std.proofs.Common.{◌≡◌, ℕ, zero, suc, ◌+◌, ◌-◌, ◌*◌, ◌<◌, ◌≤◌, Bool, true, false, cond, not, eqb, List, [], ◌∷◌, ◌++◌, length, get_or, take, drop, refl, sym, ap, ◌∙◌, arith}
+use Rattle.std.specs.Prelude.{min}
 use Rattle.std.specs.List.{concat, list_all}
 use Rattle.std.proofs.lemmas.Bool.{and_parts, not-true}
 use Rattle.std.proofs.lemmas.List.{length-append, length-replicate, get_or-drop, append-nil}
@@ -14,7 +14,7 @@ use Rattle.pe_fields.specs.Headers.{pe_place, section_place, virtual_size, secti
 use Rattle.pe_write_laws.specs.Allowed.{is_letter, are_placed}
 use Rattle.pe_write_laws.specs.Format.{dword, zeros, blocks, headers_size, dos_header, coff_header, standard_fields, size_fields, stack_fields, late_directories, directories, optional_header, section_row, section_rows, padded, contents_size, contents, headers, image_bytes}
 use Rattle.pe_write_laws.proofs.Header.{four}
-use Rattle.pe_write_laws.proofs.Room.{Section, Placed, placed_parts, placed_at}
+use Rattle.pe_write_laws.proofs.Room.{Section, placed_parts}
 
 -- ---- lengths
 

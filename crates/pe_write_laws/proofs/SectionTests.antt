@@ -1,18 +1,16 @@
 -- The tests of a written file's sections fail, and its sections are the image's.
-use Rattle.std.proofs.Common.{◌≡◌, ℕ, zero, suc, ◌+◌, ◌*◌, ◌/◌, ◌%◌, ◌<◌, ◌≤◌, Bool, true, false, not, ◌||◌, ◌&&◌, eqb, ltb, List, [], ◌∷◌, length, get_or, take, refl, sym, ap, ap₂, subst, ◌∙◌, arith}
+use Rattle.std.proofs.Common.{◌≡◌, ℕ, zero, suc, ◌+◌, ◌*◌, ◌/◌, ◌%◌, ◌<◌, ◌≤◌, false, not, ◌||◌, ◌&&◌, eqb, ltb, [], length, get_or, take, refl, sym, ap, ◌∙◌, arith}
 use Rattle.std.specs.Prelude.{bit_and}
 use Rattle.std.proofs.lemmas.Bool.{or_from, le-ltb, ne_eqb, eq-eqb, not_from_true}
-use Rattle.file_words.specs.Below.{any_below, table}
+use Rattle.file_words.specs.Below.{table}
 use Rattle.file_words.proofs.BelowLaws.{any_never, table_is}
-use Rattle.file_words.specs.Standing.{Has}
 use Rattle.chpe_types.specs.declared.image.Image.{Image}
 use Rattle.chpe_types.specs.declared.image.ImageSection.{ImageSection}
-use Rattle.pe_fields.specs.Headers.{pe_place, section_count, section_place, image_size, virtual_size, section_rva, raw_size, raw_place, section_flags, section, sections}
+use Rattle.pe_fields.specs.Headers.{pe_place, section_count, section_place, image_size, virtual_size, section_rva, raw_size, raw_place, section, sections}
 use Rattle.pe_read.specs.Refusals.{limit, too_large, short, bad_place, bad_section_table, first_place, bad_home, bad_contents, has_flag, bad_rights, bad_section, bad_section_range}
-use Rattle.pe_write_laws.specs.Allowed.{lacks_flag}
 use Rattle.pe_write_laws.specs.Format.{blocks, headers_size, contents_size, image_bytes}
 use Rattle.pe_write_laws.proofs.Header.{pe_place_is, count_is, size_is}
-use Rattle.pe_write_laws.proofs.Room.{Home, Section, Placed, Allowed, first_of, first_here, first_after, placed_at, contents_fit}
+use Rattle.pe_write_laws.proofs.Room.{Placed, Allowed, first_of, first_here, first_after, placed_at, contents_fit}
 use Rattle.pe_write_laws.proofs.Rows.{Row, row_fields, row_at, rows_has, contents_has, contents_at, contents_within, section_back, file_long}
 
 -- a section for places past the last
@@ -63,7 +61,7 @@ module _ (i : Image) (a : Allowed i) where
   row j lt =
       let p = at j lt in
       row_fields (image_bytes i) j (place_of i j) (nth i j) (pe_place_is i) (row_at (image_bytes i) i.size 4096 328 (blocks (headers_size i)) i.sections j nowhere a.placed (rows_has i a.placed) lt) p.sound
-        (omega (arith, p.home.ends, a.most)) (omega (arith, p.home.ends, a.most)) (omega (arith, p.sound.held, p.home.ends, a.most)) (omega (arith, front_fits, contents_within i.sections j nowhere lt, contents_fit i a, a.most))
+      (omega (arith, p.home.ends, a.most)) (omega (arith, p.home.ends, a.most)) (omega (arith, p.sound.held, p.home.ends, a.most)) (omega (arith, front_fits, contents_within i.sections j nowhere lt, contents_fit i a, a.most))
 
   section_here : (j : ℕ) → j < length i.sections → section (image_bytes i) j ≡ nth i j
   section_here j lt =
@@ -108,7 +106,7 @@ module _ (i : Image) (a : Allowed i) where
       let p = at j lt in
       let r = row j lt in
       home_good (section_rva (image_bytes i) j) (first_place (image_bytes i) j) (virtual_size (image_bytes i) j) (image_size (image_bytes i))
-        (ap (λ (n : ℕ). n % 4096) r.rva_is ∙ p.home.page) (omega (arith, r.rva_is, first_here_is j lt, p.home.starts)) (omega (arith, r.size_is, p.home.some)) (omega (arith, r.rva_is, r.size_is, size_here, p.home.ends))
+      (ap (λ (n : ℕ). n % 4096) r.rva_is ∙ p.home.page) (omega (arith, r.rva_is, first_here_is j lt, p.home.starts)) (omega (arith, r.size_is, p.home.some)) (omega (arith, r.rva_is, r.size_is, size_here, p.home.ends))
 
   contents_fails : (j : ℕ) → j < length i.sections → bad_contents (image_bytes i) j ≡ false
   unfolding bad_contents
@@ -116,7 +114,7 @@ module _ (i : Image) (a : Allowed i) where
       let p = at j lt in
       let r = row j lt in
       contents_good (length (image_bytes i)) (raw_place (image_bytes i) j) (raw_size (image_bytes i) j) (virtual_size (image_bytes i) j)
-        (omega (arith, r.place_is, r.raw_is, within j lt)) (omega (arith, r.raw_is, r.size_is, p.sound.held))
+      (omega (arith, r.place_is, r.raw_is, within j lt)) (omega (arith, r.raw_is, r.size_is, p.sound.held))
 
   rights_fail : (j : ℕ) → j < length i.sections → bad_rights (image_bytes i) j ≡ false
   unfolding bad_rights has_flag

@@ -1,10 +1,9 @@
 -- The one file of an image (Microsoft PE/COFF specification: "MS-DOS Stub", "COFF File Header",
 -- "Optional Header" for PE32+, "Section Table"). An image has no directories of its own, so they are
 -- those of the first places that read as its imports, its sites and its metadata.
-use Rattle.std.specs.Prelude.{ℕ, zero, suc, ◌+◌, ◌-◌, ◌*◌, ◌/◌, Bool, true, false, not, ◌&&◌, List, [], ◌∷◌, ◌++◌, length, replicate, ◌==◌, Option, Some, None, if◌then◌else◌}
+use Rattle.std.specs.Prelude.{ℕ, ◌+◌, ◌-◌, ◌*◌, ◌/◌, List, [], ◌∷◌, ◌++◌, length, replicate, ◌==◌, if◌then◌else◌}
 use Rattle.std.specs.List.{concat}
 use Rattle.hx_words.specs.LittleEndian.{bytes_of}
-use Rattle.file_words.specs.Below.{first_below}
 use Rattle.chpe_types.specs.declared.image.Image.{Image}
 use Rattle.chpe_types.specs.declared.image.ImageSection.{ImageSection}
 use Rattle.pe_write_laws.specs.Places.{import_place, config_place, blocks_place, blocks_size}

@@ -1,6 +1,6 @@
 -- Where the directories of an image are (Microsoft PE/COFF specification, "Optional Header Data
 -- Directories"): the first places of its sections that read as what the image has.
-use Rattle.std.specs.Prelude.{ℕ, ◌+◌, Bool, true, false, not, ◌&&◌, List, [], ◌∷◌, ◌==◌, Option, Some, None, is_some, if◌then◌else◌}
+use Rattle.std.specs.Prelude.{ℕ, Bool, true, false, not, ◌&&◌, List, [], ◌∷◌, ◌==◌, Option, Some, None, is_some}
 use Rattle.file_words.specs.Below.{first_below}
 use Rattle.chpe_types.specs.declared.image.Image.{Image}
 use Rattle.chpe_types.specs.declared.image.ImportSlot.{ImportSlot}
