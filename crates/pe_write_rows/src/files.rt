@@ -158,8 +158,9 @@ fn fill(out: &mut Vec<u8>, len: usize) -> Result<(), AllocError> {
     Ok(())
 }
 
-/// The contents, each followed by zeros up to the next multiple of a step from a place on.
-fn put_contents(out: &mut Vec<u8>, start: usize) -> Result<(), AllocError> {
+/// The contents, each followed by zeros up to the next multiple of 512 from a place on.
+fn put_contents(out: &mut Vec<u8>, start: u16) -> Result<(), AllocError> {
+    let start = start as usize;
     fill(out, start)?;
     out.extend_from_slice(&CODE)?;
     fill(out, start + 512)?;
@@ -217,7 +218,8 @@ fn many(alloc: Global) -> Result<Vec<u8>, AllocError> {
 }
 
 /// The number of 16 bits at a place.
-fn word(bytes: &[u8], at: usize) -> u64 {
+fn word(bytes: &[u8], at: u16) -> u64 {
+    let at = at as usize;
     match (bytes.get(at), bytes.get(at + 1)) {
         (Some(low), Some(high)) => *low as u64 + 256 * *high as u64,
         _ => 0x1_0000,
