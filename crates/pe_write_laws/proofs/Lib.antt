@@ -1,0 +1,9 @@
+pub mod Alike
+pub mod Header
+pub mod Room
+pub mod Rows
+pub mod SectionTests
+pub mod Directories
+pub mod Back
+pub mod FileBytes
+pub mod ReadAllowed
