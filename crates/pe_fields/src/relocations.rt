@@ -18,7 +18,7 @@ fn page_of(bytes: &[u8], place: u32) -> u32
 
 /// The size of the block at a place, with its header.
 #[tactic(auto, unfolding(crate::specs::Relocations::block_size))]
-fn block_size(bytes: &[u8], place: u32) -> u32
+pub fn block_size(bytes: &[u8], place: u32) -> u32
     ensures { result ≡ block_size bytes.now place }
 {
     u32_at(bytes, place as usize + 4)
@@ -73,8 +73,9 @@ fn head_fails(bytes: &[u8], place: u32, left: u32) -> bool
     left < 8 || page_of(bytes, place) % 4096 != 0 || size < 8 || size % 4 != 0 || left < size
 }
 
+/// Whether no block stands at a place with so many bytes left.
 #[tactic(auto, unfolding(crate::specs::Relocations::bad_block))]
-fn block_fails(bytes: &[u8], place: u32, left: u32) -> bool
+pub fn block_fails(bytes: &[u8], place: u32, left: u32) -> bool
     ensures { result ≡ bad_block bytes.now place left }
 {
     head_fails(bytes, place, left) || types_fail(bytes, place)
@@ -109,7 +110,7 @@ fn site(bytes: &[u8], place: u32, e: u32) -> u32
 
 /// The sites of the block at a place.
 #[tactic(auto, using(file_words::proofs::BelowLaws::chosen_none, file_words::proofs::BelowLaws::chosen_yes, file_words::proofs::BelowLaws::chosen_no), unfolding(crate::specs::Relocations::block_sites))]
-fn block_sites(alloc: Global, bytes: &[u8], place: u32) -> Result<Items<u32>, AllocError>
+pub fn block_sites(alloc: Global, bytes: &[u8], place: u32) -> Result<Items<u32>, AllocError>
     requires { page_of bytes.now place % 4096 ≡ 0 }
     ensures { IfOk result (λ found. found ≡ block_sites bytes.now place) }
 {

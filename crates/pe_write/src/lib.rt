@@ -4,7 +4,6 @@
 //! is read back by `pe_read`.
 #![tactic(auto)]
 
-mod blocks;
 mod headers;
 mod places;
 mod same;

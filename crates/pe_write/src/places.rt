@@ -6,12 +6,12 @@ ghost use Rattle.pe_write_laws.specs.Places.{or_zero, is_import_place, found_imp
 ghost use Rattle.pe_fields.specs.Imports.{same_text};
 ghost use Rattle.pe_fields.specs.Space.{is_mapped};
 
-use crate::blocks::{block_fails, block_sites, block_size};
 use crate::same::{are_same_slots, is_same_meta};
 use chpe_meta::{MetaRefusal, read_meta};
 use chpe_types::Image;
 use pe_fields::hybrid::{code_fails, config_fails, meta_rva};
 use pe_fields::imports::{imports_fail, slots};
+use pe_fields::relocations::{block_fails, block_sites, block_size};
 use pe_fields::space::{is_mapped, rest_at};
 use std::alloc::{AllocError, Global};
 
