@@ -1,7 +1,6 @@
 //! The command over objects in memory, with answers worked out by hand.
 
-use ec_driver::{ecc, status_of};
-use hx_io::{FailSink, FailSource, FailStore, MemSink, MemSource, MemStore, Store};
+use crate::calling::{Fails, NONE_FAIL, runs};
 use std::process::Abort;
 use std::test::Fail;
 
@@ -15,79 +14,13 @@ const MUL: &str =
 const GENERATED: &str =
     "typedef long long (*fn)(long long, long long);\nlong long f0(long long a, long long b) { return a + b; }\nfn table[1] = { f0 };\nint main(void) {\n  int i;\n  long long v = 1;\n  for (i = 0; i < 1; i++) {\n    v = table[i](v, i) % 1000000;\n    put_byte(65 + (int)((unsigned long long)v % 26));\n  }\n  return 0;\n}\n";
 
-/// The calls that fail, of the store, the output and the notes.
-#[derive(Clone, Copy)]
-struct Fails<'a> {
-    store: &'a [u64],
-    out: &'a [u64],
-    notes: &'a [u64],
-}
-
-static NONE_FAIL: Fails<'static> = Fails {
-    store: &[],
-    out: &[],
-    notes: &[],
-};
-
 /// Words, the unit `p.c`, and what is put, told and answered.
 type Row = (&'static str, &'static str, &'static str, &'static str, u8);
-
-fn words_of<R: AllocGlobal>(rt: &R, line: &str) -> Result<Vec<String>, Fail> {
-    let mut words = Vec::new(rt.alloc());
-    if !line.is_empty() {
-        for word in line.split(' ') {
-            words.push(String::from_str(rt.alloc(), word)?)?;
-        }
-    }
-    Ok(words)
-}
-
-/// Runs the words, cut at blanks, over a store that holds this unit as `p.c`, and another as `q.c`;
-/// compares what is put, the line and the status. The image, if one was saved.
-fn runs<R: Abort + AllocGlobal>(
-    rt: &R,
-    line: &str,
-    unit: &[u8],
-    fails: &Fails<'_>,
-    wanted: (&str, &str, u8),
-) -> Result<Option<Vec<u8>>, Fail> {
-    let alloc = rt.alloc();
-    let words = words_of(rt, line)?;
-    let mut files_held = MemStore::new(alloc);
-    files_held.save(alloc, "p.c", unit)?;
-    files_held.save(alloc, "q.c", b"int g;")?;
-    let mut store = FailStore::new(files_held, Vec::from_slice(alloc, fails.store)?);
-    let mut input = FailSource::new(MemSource::new(Vec::new(alloc)), Vec::new(alloc));
-    let mut out = FailSink::new(
-        MemSink::new(alloc, 512)?,
-        Vec::from_slice(alloc, fails.out)?,
-    );
-    let mut notes = FailSink::new(
-        MemSink::new(alloc, 64)?,
-        Vec::from_slice(alloc, fails.notes)?,
-    );
-    let report = ecc(alloc, &words, &mut store, &mut input, &mut out, &mut notes);
-    assert_eq!(rt;
-        out.inner().bytes(),
-        wanted.0.as_bytes(),
-        "output of {line}"
-    );
-    assert_eq!(rt;
-        notes.inner().bytes(),
-        wanted.1.as_bytes(),
-        "line of {line}"
-    );
-    assert_eq!(rt; status_of(&report), wanted.2, "status of {line}");
-    match store.inner().held("p.img") {
-        Some(image) => Ok(Some(Vec::from_slice(alloc, image)?)),
-        None => Ok(None),
-    }
-}
 
 fn rows<R: Abort + AllocGlobal>(rt: &R, rows: &[Row], is_saved: bool) -> Result<(), Fail> {
     for (line, unit, output, note, status) in rows {
         let wanted = (*output, *note, *status);
-        let image = runs(rt, line, unit.as_bytes(), &NONE_FAIL, wanted)?;
+        let image = runs(rt, line, ("p.c", unit.as_bytes()), b"", &NONE_FAIL, wanted)?;
         assert_eq!(rt; image.is_some(), is_saved, "image of {line}");
     }
     Ok(())
@@ -264,7 +197,14 @@ fn commands(rt: HostRuntime) -> Result<(), Fail> {
     rows(&rt, &BUILT, true)?;
     rows(&rt, &OTHERS, false)?;
     for line in &USAGE {
-        let image = runs(&rt, line, HI.as_bytes(), &NONE_FAIL, ("", "usage\n", 2))?;
+        let image = runs(
+            &rt,
+            line,
+            ("p.c", HI.as_bytes()),
+            b"",
+            &NONE_FAIL,
+            ("", "usage\n", 2),
+        )?;
         assert!(rt; image.is_none(), "image of {line}");
     }
     Ok(())
@@ -276,6 +216,7 @@ static FAILING: [(&str, Fails<'static>, &str, &str, u8); 9] = [
         "exec p.c -o p.img",
         Fails {
             store: &[0],
+            input: &[],
             out: &[],
             notes: &[],
         },
@@ -287,6 +228,7 @@ static FAILING: [(&str, Fails<'static>, &str, &str, u8); 9] = [
         "exec p.c -o p.img",
         Fails {
             store: &[1],
+            input: &[],
             out: &[],
             notes: &[],
         },
@@ -298,6 +240,7 @@ static FAILING: [(&str, Fails<'static>, &str, &str, u8); 9] = [
         "check p.c",
         Fails {
             store: &[0],
+            input: &[],
             out: &[],
             notes: &[],
         },
@@ -309,6 +252,7 @@ static FAILING: [(&str, Fails<'static>, &str, &str, u8); 9] = [
         "check p.c q.c",
         Fails {
             store: &[1],
+            input: &[],
             out: &[],
             notes: &[],
         },
@@ -320,6 +264,7 @@ static FAILING: [(&str, Fails<'static>, &str, &str, u8); 9] = [
         "exec p.c -o p.img",
         Fails {
             store: &[],
+            input: &[],
             out: &[0],
             notes: &[],
         },
@@ -331,6 +276,7 @@ static FAILING: [(&str, Fails<'static>, &str, &str, u8); 9] = [
         "exec p.c -o p.img",
         Fails {
             store: &[],
+            input: &[],
             out: &[1],
             notes: &[],
         },
@@ -342,6 +288,7 @@ static FAILING: [(&str, Fails<'static>, &str, &str, u8); 9] = [
         "exec p.c -o p.img",
         Fails {
             store: &[],
+            input: &[],
             out: &[],
             notes: &[0],
         },
@@ -353,6 +300,7 @@ static FAILING: [(&str, Fails<'static>, &str, &str, u8); 9] = [
         "check p.c",
         Fails {
             store: &[],
+            input: &[],
             out: &[0],
             notes: &[0],
         },
@@ -364,6 +312,7 @@ static FAILING: [(&str, Fails<'static>, &str, &str, u8); 9] = [
         "check p.c",
         Fails {
             store: &[1],
+            input: &[],
             out: &[0],
             notes: &[1],
         },
@@ -376,7 +325,14 @@ static FAILING: [(&str, Fails<'static>, &str, &str, u8); 9] = [
 #[test]
 fn failing_objects(rt: HostRuntime) -> Result<(), Fail> {
     for (line, fails, output, note, status) in &FAILING {
-        runs(&rt, line, HI.as_bytes(), fails, (*output, *note, *status))?;
+        runs(
+            &rt,
+            line,
+            ("p.c", HI.as_bytes()),
+            b"",
+            fails,
+            (*output, *note, *status),
+        )?;
     }
     Ok(())
 }
@@ -389,13 +345,20 @@ static ONE: &[u8] =
 fn an_image_and_long_units(rt: HostRuntime) -> Result<(), Fail> {
     let unit = b"int main(void){return 1;}";
     let wanted = ("", "exit 1\n", 0);
-    let image = runs(&rt, "exec p.c -o p.img", unit, &NONE_FAIL, wanted)?;
+    let image = runs(
+        &rt,
+        "exec p.c -o p.img",
+        ("p.c", unit),
+        b"",
+        &NONE_FAIL,
+        wanted,
+    )?;
     assert_eq!(rt; image.ok_or("no image")?.as_slice(), ONE);
     let blanks = vec![in rt.alloc(); b' '; 1_048_576]?;
     let wanted = ("", "unit 0: NoMain at 0\n", 20);
-    runs(&rt, "check p.c", &blanks, &NONE_FAIL, wanted)?;
+    runs(&rt, "check p.c", ("p.c", &blanks), b"", &NONE_FAIL, wanted)?;
     let more = vec![in rt.alloc(); b' '; 1_048_577]?;
     let wanted = ("", "limit unit-bytes 1048577\n", 21);
-    runs(&rt, "check p.c", &more, &NONE_FAIL, wanted)?;
+    runs(&rt, "check p.c", ("p.c", &more), b"", &NONE_FAIL, wanted)?;
     Ok(())
 }

@@ -1,8 +1,6 @@
 //! The run of images, with answers worked out by hand.
 
-use ec_driver::{ecc, status_of};
-use hx_io::{FailSink, FailSource, FailStore, MemSink, MemSource, MemStore, Store};
-use std::process::Abort;
+use crate::calling::{Fails, runs};
 use std::test::Fail;
 
 /// The file of an image (`tools/image_sample.py`). Its x64 code takes a byte, puts it, calls EC code by an address that
@@ -95,13 +93,21 @@ enum Failing {
     Output,
 }
 
-/// The numbers of the calls that fail: the first, or none.
-fn fails<R: AllocGlobal>(rt: &R, first: bool) -> Result<Vec<u64>, Fail> {
-    let mut calls = Vec::new(rt.alloc());
-    if first {
-        calls.push(0)?;
+static FIRST: [u64; 1] = [0];
+
+/// The first call, or none.
+fn first_if(fails: bool) -> &'static [u64] {
+    if fails { &FIRST } else { &[] }
+}
+
+/// The calls that fail: the first of that object.
+fn fails(failing: Failing) -> Fails<'static> {
+    Fails {
+        store: first_if(failing == Failing::Store),
+        input: first_if(failing == Failing::Input),
+        out: first_if(failing == Failing::Output),
+        notes: &[],
     }
-    Ok(calls)
 }
 
 /// Words, a place of the sample's file with the byte that it becomes, what fails; what is put, the line and the status.
@@ -288,31 +294,13 @@ static ROWS: [Row; 20] = [
 
 #[test]
 fn images(rt: HostRuntime) -> Result<(), Fail> {
-    let alloc = rt.alloc();
     for (line, (place, byte), failing, output, note, status) in &ROWS {
-        let mut words = Vec::new(alloc);
-        for word in line.split(' ') {
-            words.push(String::from_str(alloc, word)?)?;
-        }
-        let mut file = Vec::from_slice(alloc, &SAMPLE)?;
+        let mut file = Vec::from_slice(rt.alloc(), &SAMPLE)?;
         if let Some(at) = file.get_mut(*place) {
             *at = *byte;
         }
-        let mut held = MemStore::new(alloc);
-        held.save(alloc, "p.img", &file)?;
-        held.save(alloc, "p.c", b"int main(void){return 0;}")?;
-        let mut store = FailStore::new(held, fails(&rt, *failing == Failing::Store)?);
-        let taken = MemSource::new(Vec::from_slice(alloc, b"Z!")?);
-        let mut input = FailSource::new(taken, fails(&rt, *failing == Failing::Input)?);
-        let mut out = FailSink::new(
-            MemSink::new(alloc, 8)?,
-            fails(&rt, *failing == Failing::Output)?,
-        );
-        let mut notes = FailSink::new(MemSink::new(alloc, 64)?, Vec::new(alloc));
-        let report = ecc(alloc, &words, &mut store, &mut input, &mut out, &mut notes);
-        assert_eq!(rt; out.inner().bytes(), output.as_bytes(), "output of {line}");
-        assert_eq!(rt; notes.inner().bytes(), note.as_bytes(), "line of {line}");
-        assert_eq!(rt; status_of(&report), *status, "status of {line}");
+        let wanted = (*output, *note, *status);
+        runs(&rt, line, ("p.img", &file), b"Z!", &fails(*failing), wanted)?;
     }
     Ok(())
 }
