@@ -1,5 +1,6 @@
 -- What the place tells at which tables in order pass a place.
-use Rattle.std.proofs.Common.{◌≡◌, ℕ, zero, suc, ◌+◌, ◌-◌, ◌<◌, ◌≤◌, true, false, cond, eqb, leb, ltb, List, [], ◌∷◌, length, get_or, Some, None, refl, sym, ap, ◌∙◌, arith}
+use Rattle.std.proofs.Common.{◌≡◌, ℕ, zero, suc, ◌+◌, ◌-◌, ◌<◌, ◌≤◌, true, false, cond, eqb, leb, ltb, List, [], ◌∷◌, length, get_or, Some, None, refl, sym, ap, subst, ◌∙◌, arith}
+use Rattle.std.specs.Prelude.{slice_get}
 use Rattle.std.proofs.lemmas.Bool.{and_parts, and_left, and_right, leb-true, ltb-true, ltb-false, le-ltb, ne_eqb, cond-true, cond-false}
 use Rattle.std.proofs.lemmas.List.Sorted.{IsNonDecreasingBy-from_all_adjacent, IsPartitionedBy-leb, IsPartitionedBy-ltb}
 use Rattle.std.specs.List.Sorted.{IsPartitionedBy, IsPartitionPoint}
@@ -49,6 +50,31 @@ module _ (rs : List CodeRange) (a i : ℕ) (v : valid_ranges rs ≡ true) (bound
 
   pub kind_not_there : (d : CodeRange) → 0 < i → is_in (get_or rs (i - 1) d) a ≡ false → None ≡ kind_in rs a
   kind_not_there d some f = sym (kind_last d some ∙ cond-false _ _ _ f)
+
+-- ---- a range that has the place
+
+module _ (a : ℕ) where
+  rest_ends : (r : CodeRange) (rs : List CodeRange) → each_follows ends_by r rs ≡ true → all_neighbours ends_by rs ≡ true
+  rest_ends r [] v = refl
+  rest_ends r (s ∷ rs) v = (and_parts (ends_by r s) (each_follows ends_by s rs) v).1
+
+  starts_past : (r : CodeRange) (rs : List CodeRange) (i : ℕ) (t : CodeRange) → each_follows ends_by r rs ≡ true → slice_get rs i ≡ Some t → range_end r ≤ t.start
+  starts_past r [] i t v e = absurd cc
+  starts_past r (s ∷ rs) zero t v e = let same : s ≡ t = cc in subst (λ (u : CodeRange). range_end r ≤ u.start) same (leb-true (range_end r) s.start (and_parts (ends_by r s) (each_follows ends_by s rs) v).0)
+  starts_past r (s ∷ rs) (suc i) t v e =
+      let parts = and_parts (ends_by r s) (each_follows ends_by s rs) v in
+      omega (arith, leb-true (range_end r) s.start parts.0, starts_past s rs i t parts.1 e)
+
+  has_place : (rs : List CodeRange) (i : ℕ) (t : CodeRange) → all_neighbours ends_by rs ≡ true → slice_get rs i ≡ Some t → is_in t a ≡ true → Some t.kind ≡ kind_in rs a
+  has_place [] i t v e h = absurd cc
+  has_place (r ∷ rs) zero t v e h = let same : r ≡ t = cc in subst (λ (u : CodeRange). Some u.kind ≡ kind_in (r ∷ rs) a) same (sym (cond-true (is_in r a) (Some r.kind) (kind_in rs a) (subst (λ (u : CodeRange). is_in u a ≡ true) (sym same) h)))
+  has_place (r ∷ rs) (suc i) t v e h =
+      let start : t.start ≤ a = leb-true t.start a (and_parts (leb t.start a) (ltb a (range_end t)) h).0 in
+      let over : range_end r ≤ a = omega (arith, start, starts_past r rs i t v e) in
+      has_place rs i t (rest_ends r rs v) e h ∙ sym (cond-false (is_in r a) (Some r.kind) (kind_in rs a) (past_end r a over))
+
+pub kind_got : (rs : List CodeRange) (a i : ℕ) (t : CodeRange) → valid_ranges rs ≡ true → slice_get rs i ≡ Some t → is_in t a ≡ true → Some t.kind ≡ kind_in rs a
+kind_got rs a i t v e h = has_place a rs i t (and_parts _ _ v).1 e h
 
 -- ---- redirections
 

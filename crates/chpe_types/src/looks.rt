@@ -19,7 +19,17 @@ pub fn kind_at(m: &Meta, rva: u32) -> Option<u8>
     requires { IsTrue (valid_meta_of m.now) }
     ensures { result ≡ kind_of m.now rva }
 {
-    kind_among(m.ranges.as_slice(), rva)
+    let mut near = 0;
+    kind_among(m.ranges.as_slice(), rva, &mut near)
+}
+
+/// The side of the code at a place, as [`kind_at`] tells it. `near` is a guess of the number of the range that has the
+/// place, which is tried first; any number will do. After a wrong guess it is the last range that starts by the place.
+pub fn kind_near(m: &Meta, rva: u32, near: &mut usize) -> Option<u8>
+    requires { IsTrue (valid_meta_of m.now) }
+    ensures { result ≡ kind_of m.now rva }
+{
+    kind_guessed(m.ranges.as_slice(), rva, near)
 }
 
 /// The place of the EC code that the x64 code at a place stands for; none where no redirection has
@@ -74,12 +84,25 @@ fn has(range: &CodeRange, rva: u32) -> bool
     range.start <= rva && rva - range.start < range.length
 }
 
-// The ranges are in order, so the last that starts by the place has it, or none.
-fn kind_among(ranges: &[CodeRange], rva: u32) -> Option<u8>
+// The ranges share no place, so the guessed one tells the side where it has the place.
+#[tactic(auto, using(crate::proofs::Points::kind_got))]
+fn kind_guessed(ranges: &[CodeRange], rva: u32, near: &mut usize) -> Option<u8>
+    requires { IsTrue (valid_ranges ranges.now) }
+    ensures { result ≡ kind_in ranges.now rva }
+{
+    match ranges.get(*near) {
+        Some(range) if has(range, rva) => Some(range.kind),
+        _ => kind_among(ranges, rva, near),
+    }
+}
+
+// The ranges are in order, so the last that starts by the place has it, or none. Its number is left in `near`.
+fn kind_among(ranges: &[CodeRange], rva: u32, near: &mut usize) -> Option<u8>
     requires { IsTrue (valid_ranges ranges.now) }
     ensures { result ≡ kind_in ranges.now rva }
 {
     let started = ranges.partition_point(|range| range.start <= rva);
+    *near = started.saturating_sub(1);
     if started == 0 {
         return None;
     }

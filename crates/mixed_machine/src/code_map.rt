@@ -6,7 +6,7 @@ ghost use Rattle.machine_rules.specs.Layout.{service_at as service_at_lem};
 ghost use Rattle.machine_rules.specs.State.{is_near, side_of_kind as side_of_kind_lem, mapped_at as mapped_at_lem, place_at as place_at_lem, redirected as redirected_lem};
 ghost use Rattle.mixed_machine.specs.Maps.{code_of};
 
-use chpe_types::{Meta, kind_at, redirect_of};
+use chpe_types::{Meta, kind_near, redirect_of};
 use machine_rules::places::{Place, Service, Side};
 use std::marker::Model;
 
@@ -51,27 +51,27 @@ fn side_of_kind(kind: Option<u8>) -> Option<Side>
     }
 }
 
-/// The side of the code at an address.
-fn mapped_at(meta: &Meta, base: u64, a: u64) -> Option<Side>
+/// The side of the code at an address, by a guess of its range.
+fn mapped_at(meta: &Meta, base: u64, a: u64, near: &mut usize) -> Option<Side>
     requires { IsTrue (valid_meta_of meta.now) }
     ensures { result ≡ mapped_at_lem (code_of meta.now base) a }
 {
     match rva_of(base, a) {
         None => None,
-        Some(rva) => side_of_kind(kind_at(meta, rva)),
+        Some(rva) => side_of_kind(kind_near(meta, rva, near)),
     }
 }
 
-/// What stands at an address.
+/// What stands at an address, by a guess of its range.
 #[tactic(auto, unfolding(machine_rules::specs::State::place_at))]
-fn place_in(meta: &Meta, base: u64, a: u64) -> Place
+fn place_in(meta: &Meta, base: u64, a: u64, near: &mut usize) -> Place
     requires { IsTrue (valid_meta_of meta.now) }
     ensures { result ≡ place_at_lem (code_of meta.now base) a }
 {
     if let Some(service) = service_at(a) {
         return Place::AtService(service);
     }
-    match mapped_at(meta, base, a) {
+    match mapped_at(meta, base, a, near) {
         Some(side) => Place::InRange(side),
         None => Place::Nowhere,
     }
@@ -121,7 +121,15 @@ impl CodeMap {
     pub fn place_at(&self, a: u64) -> Place
         ensures { result ≡ place_at_lem self.now a }
     {
-        place_in(&self.meta, self.base, a)
+        let mut near = 0;
+        place_in(&self.meta, self.base, a, &mut near)
+    }
+
+    /// The same. `near` is a guess of the range of the address, which is tried first and left better; any number will do.
+    pub fn place_near(&self, a: u64, near: &mut usize) -> Place
+        ensures { result ≡ place_at_lem self.now a }
+    {
+        place_in(&self.meta, self.base, a, near)
     }
 
     /// The address of the EC function that an address stands for.

@@ -28,6 +28,8 @@ pub const NO_A64_FLAGS: AFlags = AFlags {
 pub struct Guest {
     pub cpu: Cpu,
     pub mem: Memory,
+    /// A guess of the code map's range of pc. No answer depends on it.
+    pub near: usize,
 }
 
 /// How a refused access ends a run.

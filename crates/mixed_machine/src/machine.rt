@@ -118,9 +118,13 @@ impl Guest {
         ensures input_asked { result ≡ Err Fault.OfSource → AwaitsInput (place_at code.now self.old.cpu.pc) code.now (guest_of self.old) }
         ensures out_asked { result ≡ Err Fault.OfSink → AwaitsOutput (place_at code.now self.old.cpu.pc) code.now (guest_of self.old) }
     {
-        match code.place_at(self.cpu.pc) {
+        let mut near = self.near;
+        match code.place_near(self.cpu.pc, &mut near) {
             Place::AtService(service) => self.serve(code, service, input, out),
-            Place::InRange(side) => Ok(self.instruct(code, side)),
+            Place::InRange(side) => {
+                self.near = near;
+                Ok(self.instruct(code, side))
+            }
             Place::Nowhere => Ok(Some(GuestEnd::Stuck(StuckWhy::NoRange, self.cpu.pc))),
         }
     }
@@ -144,6 +148,7 @@ impl Machine {
         let guest = Guest {
             cpu: start_registers(entry),
             mem: add_stack(alloc, mem, stack)?,
+            near: 0,
         };
         Ok(Machine {
             guest,

@@ -76,7 +76,8 @@ impl Guest {
     pub fn arrive(&mut self, code: &CodeMap, side: Side, pc: u64) -> Option<GuestEnd>
         ensures { way_of result (guest_of self.new) ≡ arrives side (place_at code.now self.old.cpu.pc) pc (registers_of self.old.cpu) self.old.mem }
     {
-        if is_across(side, code.place_at(self.cpu.pc)) {
+        let place = code.place_near(self.cpu.pc, &mut self.near);
+        if is_across(side, place) {
             return self.bar(pc, GuestEnd::Stuck(StuckWhy::BadSwitch, pc));
         }
         None
