@@ -1,5 +1,6 @@
 use c_types::Ty;
 use hx_words::Items;
+use named_rows::{Named, NamedRows};
 
 /// What a name that a unit declares means.
 #[derive(Clone, Copy, Debug, PartialEq, Eq)]
@@ -21,6 +22,14 @@ pub struct UnitName {
     pub meaning: Meaning,
 }
 
+impl Named for UnitName {
+    ghost name = { λ row. row.name };
+
+    fn name(&self) -> &[u8] {
+        self.name.as_slice()
+    }
+}
+
 /// A tag of a unit, with the struct's place in `structs`. It is complete from the end of the struct's
 /// definition in this unit on.
 #[derive(Drop)]
@@ -30,11 +39,19 @@ pub struct UnitTag {
     pub complete: bool,
 }
 
+impl Named for UnitTag {
+    ghost name = { λ row. row.name };
+
+    fn name(&self) -> &[u8] {
+        self.name.as_slice()
+    }
+}
+
 /// What a unit has declared so far. Each name and each tag stands once.
 #[derive(Drop)]
 pub struct UnitScope {
-    pub names: Items<UnitName>,
-    pub tags: Items<UnitTag>,
+    pub names: NamedRows<UnitName>,
+    pub tags: NamedRows<UnitTag>,
 }
 
 /// What a name that a function's body declares means.
@@ -52,10 +69,18 @@ pub struct LocalName {
     pub meaning: LocalMeaning,
 }
 
+impl Named for LocalName {
+    ghost name = { λ row. row.name };
+
+    fn name(&self) -> &[u8] {
+        self.name.as_slice()
+    }
+}
+
 /// What the blocks around a place in a body have declared so far: the innermost block, and those
 /// around it, the outermost first. Each name stands once in a block.
 #[derive(Drop)]
 pub struct LocalScope {
-    pub own: Items<LocalName>,
-    pub outer: Items<Items<LocalName>>,
+    pub own: NamedRows<LocalName>,
+    pub outer: Items<NamedRows<LocalName>>,
 }

@@ -49,6 +49,12 @@ length_of_none p xs h = ⊎_elim
     (λ some. let e : ◌≡◌ {A = Option ℕ} None (Some (position_or_len p xs)) = sym h ∙ some.0 in cc)
     (position_cases p xs)
 
+pub position_at : {X : Type 0} (p : X → Bool) (xs : List X) (i : ℕ) → position p xs ≡ Some i → position_or_len p xs ≡ i
+position_at p xs i h = ⊎_elim
+    (λ none. let e : ◌≡◌ {A = Option ℕ} None (Some i) = sym none.0 ∙ h in cc)
+    (λ some. let e : ◌≡◌ {A = Option ℕ} (Some (position_or_len p xs)) (Some i) = sym some.0 ∙ h in cc)
+    (position_cases p xs)
+
 -- the row at a first position
 pub found_at : {X : Type 0} (p : X → Bool) (xs : List X) (i : ℕ) → position p xs ≡ Some i → slice_get xs i ≡ find p xs
 found_at p xs i h = ⊎_elim
@@ -95,6 +101,9 @@ module _ {A : Type 0} (name : A → List ℕ) where
       let e : 1 + position_or_len (λ row. bytes_eq (name row) key) rows ≡ length (x ∷ rows) = subst (λ (b : Bool). cond (not b) (1 + position_or_len (λ row. bytes_eq (name row) key) rows) 0 ≡ length (x ∷ rows)) f h in
       (f, none_named key rows (omega (arith, e))))
       (cases_Bool (bytes_eq (name x) key))
+
+  pub none_named_by : (key : List ℕ) (rows : List A) → position (λ row. bytes_eq (name row) key) rows ≡ None → NoneNamed name key rows
+  none_named_by key rows h = none_named key rows (length_of_none (λ row. bytes_eq (name row) key) rows h)
 
   none_push : (key : List ℕ) (rows : List A) (row : A) → NoneNamed name key rows → bytes_eq (name row) key ≡ false → NoneNamed name key (rows ++ row ∷ [])
   none_push key [] row h f = (f, tt)

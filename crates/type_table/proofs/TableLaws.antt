@@ -1,67 +1,70 @@
 -- A table of types with one more row, or one row changed.
-use Rattle.std.proofs.Common.{◌≡◌, ℕ, Bool, true, ◌&&◌, List, [], ◌∷◌, ◌++◌, length, slice_get, slice_set, Option, Some, None, IsSome, bytes_eq, refl, sym, ap, subst, ◌∙◌}
+use Rattle.std.proofs.Common.{◌≡◌, ℕ, Bool, true, List, [], ◌∷◌, ◌++◌, length, slice_get, slice_set, Option, Some, None, IsSome, sym, ap, subst, ◌∙◌}
 use Rattle.std.specs.Prelude.{nat_eq}
 use Rattle.std.specs.Global.{Vec}
 use Rattle.std.specs.HashMap.{HashMap, Updates}
+use Rattle.std.specs.Map.{lookup}
 use Rattle.std.specs.Cmp.Lexicographic.{pointwise, bytes_decides}
-use Rattle.std.proofs.lemmas.Bool.{and_parts}
 use Rattle.c_types.specs.declared.types.Ty.{Ty}
 use Rattle.c_types.specs.declared.types.FunTy.{FunTy}
 use Rattle.c_types.specs.declared.types.StructDef.{StructDef}
 use Rattle.c_types.specs.declared.types.Types.{Types}
-use Rattle.named_rows.specs.Places.{look_up, Places}
-use Rattle.named_rows.proofs.PlaceLaws.{places_none, places_kept, places_new, places_again, places_set}
+use Rattle.named_rows.specs.Places.{look_up, KeyFor, Places}
+use Rattle.named_rows.proofs.PlaceLaws.{places_kept, places_new, places_again, places_set}
 use Rattle.type_table.specs.TypeKeys.{ty_key, fun_key, keeps_tag, IsIndexed}
-
-abbrev pub no_types : Types
-no_types = record { tys = []; structs = []; funs = [] }
 
 abbrev pub tag_of : StructDef → List ℕ
 tag_of s = s.tag
 
-module _ {S : Type 0} where
-  pub table_none : (l f s : HashMap (Vec ℕ) ℕ S) → l.entries ≡ [] → f.entries ≡ [] → s.entries ≡ [] → IsIndexed no_types l f s true
-  table_none l f s a b c = record { tys = places_none ty_key l a; funs = places_none fun_key f b; structs = λ _. places_none tag_of s c }
+same_tag : (structs : List StructDef) (place : ℕ) (x y : StructDef) → slice_get structs place ≡ Some y → keeps_tag (slice_get structs place) x.tag ≡ true → y.tag ≡ x.tag
+same_tag structs place x y is k = (bytes_decides y.tag x.tag).0 (ap (λ (o : Option StructDef). keeps_tag o x.tag) (sym is) ∙ k)
 
-  -- the entries of each index stay
-  pub tys_kept : (t : Types) (l m f s : HashMap (Vec ℕ) ℕ S) (d : Bool) → m.entries ≡ l.entries → IsIndexed t l f s d → IsIndexed t m f s d
-  tys_kept t l m f s d e h = record { tys = places_kept ty_key l m t.tys e h.tys; funs = h.funs; structs = h.structs }
+module _ {A S : Type 0} (name : A → List ℕ) where
+  -- a row whose numbers the index lacks, with these at its place
+  pushed : (l m n : HashMap (Vec ℕ) ℕ S) (key : Vec ℕ) (rows : List A) (row : A) (numbers : List ℕ) (room : ℕ) → Places name l rows → m.entries ≡ l.entries → numbers ≡ name row
+      → KeyFor (look_up nat_eq l numbers) numbers room (Some key) → Updates (λ x y. pointwise nat_eq x.items y.items) m n key (Some (length rows)) → Places name n (rows ++ row ∷ [])
+  pushed l m n key rows row numbers room h e is k u =
+      places_new name m n key rows row (places_kept name l m rows e h)
+      (ap (λ (es : List (Vec ℕ × ℕ)). lookup (λ v. pointwise nat_eq (name row) v.items) es) e ∙ ap (look_up nat_eq l) (sym is) ∙ k.0) (k.1 ∙ is) u
 
-  pub funs_kept : (t : Types) (l f g s : HashMap (Vec ℕ) ℕ S) (d : Bool) → g.entries ≡ f.entries → IsIndexed t l f s d → IsIndexed t l g s d
-  funs_kept t l f g s d e h = record { tys = h.tys; funs = places_kept fun_key f g t.funs e h.funs; structs = h.structs }
+  -- and one whose numbers it has
+  repeated : (l m : HashMap (Vec ℕ) ℕ S) (rows : List A) (row : A) (numbers : List ℕ) (room : ℕ) → Places name l rows → m.entries ≡ l.entries → numbers ≡ name row
+      → KeyFor (look_up nat_eq l numbers) numbers room None → Places name m (rows ++ row ∷ [])
+  repeated l m rows row numbers room h e is k = places_kept name l m (rows ++ row ∷ []) e (places_again name l rows row h (subst (λ (n : List ℕ). IsSome (look_up nat_eq l n)) is k))
 
-  pub structs_kept : (t : Types) (l f s r : HashMap (Vec ℕ) ℕ S) (d : Bool) → r.entries ≡ s.entries → IsIndexed t l f s d → IsIndexed t l f r d
-  structs_kept t l f s r d e h = record { tys = h.tys; funs = h.funs; structs = λ k. places_kept tag_of s r t.structs e (h.structs k) }
+module _ {S : Type 0} (t : Types) where
+  pub tys_pushed : (l f s m n : HashMap (Vec ℕ) ℕ S) (d : Bool) (key : Vec ℕ) (ty : Ty) (numbers : List ℕ) (room : ℕ) → IsIndexed t l f s d → m.entries ≡ l.entries → numbers ≡ ty_key ty
+      → KeyFor (look_up nat_eq l numbers) numbers room (Some key) → Updates (λ x y. pointwise nat_eq x.items y.items) m n key (Some (length t.tys)) → IsIndexed (record t { tys = t.tys ++ ty ∷ [] }) n f s d
+  tys_pushed l f s m n d key ty numbers room is e same k u = record { ty_firsts = pushed ty_key l m n key t.tys ty numbers room is.ty_firsts e same k u; fun_firsts = is.fun_firsts; tag_firsts = is.tag_firsts }
 
-  pub tys_new : (t : Types) (l m f s : HashMap (Vec ℕ) ℕ S) (d : Bool) (key : Vec ℕ) (ty : Ty) → IsIndexed t l f s d → look_up nat_eq l (ty_key ty) ≡ None → key.items ≡ ty_key ty
-      → Updates (λ x y. pointwise nat_eq x.items y.items) l m key (Some (length t.tys)) → IsIndexed (record t { tys = t.tys ++ ty ∷ [] }) m f s d
-  tys_new t l m f s d key ty h none is u = record { tys = places_new ty_key l m key t.tys ty h.tys none is u; funs = h.funs; structs = h.structs }
+  pub tys_repeated : (l f s m : HashMap (Vec ℕ) ℕ S) (d : Bool) (ty : Ty) (numbers : List ℕ) (room : ℕ) → IsIndexed t l f s d → m.entries ≡ l.entries → numbers ≡ ty_key ty
+      → KeyFor (look_up nat_eq l numbers) numbers room None → IsIndexed (record t { tys = t.tys ++ ty ∷ [] }) m f s d
+  tys_repeated l f s m d ty numbers room is e same k = record { ty_firsts = repeated ty_key l m t.tys ty numbers room is.ty_firsts e same k; fun_firsts = is.fun_firsts; tag_firsts = is.tag_firsts }
 
-  pub tys_again : (t : Types) (l f s : HashMap (Vec ℕ) ℕ S) (d : Bool) (ty : Ty) → IsIndexed t l f s d → IsSome (look_up nat_eq l (ty_key ty)) → IsIndexed (record t { tys = t.tys ++ ty ∷ [] }) l f s d
-  tys_again t l f s d ty h some = record { tys = places_again ty_key l t.tys ty h.tys some; funs = h.funs; structs = h.structs }
+  pub funs_pushed : (l f s g h : HashMap (Vec ℕ) ℕ S) (d : Bool) (key : Vec ℕ) (x : FunTy) (numbers : List ℕ) (room : ℕ) → IsIndexed t l f s d → g.entries ≡ f.entries → numbers ≡ fun_key x
+      → KeyFor (look_up nat_eq f numbers) numbers room (Some key) → Updates (λ x y. pointwise nat_eq x.items y.items) g h key (Some (length t.funs)) → IsIndexed (record t { funs = t.funs ++ x ∷ [] }) l h s d
+  funs_pushed l f s g h d key x numbers room is e same k u = record { ty_firsts = is.ty_firsts; fun_firsts = pushed fun_key f g h key t.funs x numbers room is.fun_firsts e same k u; tag_firsts = is.tag_firsts }
 
-  pub funs_new : (t : Types) (l f g s : HashMap (Vec ℕ) ℕ S) (d : Bool) (key : Vec ℕ) (x : FunTy) → IsIndexed t l f s d → look_up nat_eq f (fun_key x) ≡ None → key.items ≡ fun_key x
-      → Updates (λ x y. pointwise nat_eq x.items y.items) f g key (Some (length t.funs)) → IsIndexed (record t { funs = t.funs ++ x ∷ [] }) l g s d
-  funs_new t l f g s d key x h none is u = record { tys = h.tys; funs = places_new fun_key f g key t.funs x h.funs none is u; structs = h.structs }
+  pub funs_repeated : (l f s g : HashMap (Vec ℕ) ℕ S) (d : Bool) (x : FunTy) (numbers : List ℕ) (room : ℕ) → IsIndexed t l f s d → g.entries ≡ f.entries → numbers ≡ fun_key x
+      → KeyFor (look_up nat_eq f numbers) numbers room None → IsIndexed (record t { funs = t.funs ++ x ∷ [] }) l g s d
+  funs_repeated l f s g d x numbers room is e same k = record { ty_firsts = is.ty_firsts; fun_firsts = repeated fun_key f g t.funs x numbers room is.fun_firsts e same k; tag_firsts = is.tag_firsts }
 
-  pub funs_again : (t : Types) (l f s : HashMap (Vec ℕ) ℕ S) (d : Bool) (x : FunTy) → IsIndexed t l f s d → IsSome (look_up nat_eq f (fun_key x)) → IsIndexed (record t { funs = t.funs ++ x ∷ [] }) l f s d
-  funs_again t l f s d x h some = record { tys = h.tys; funs = places_again fun_key f t.funs x h.funs some; structs = h.structs }
+  pub structs_kept : (l f s r : HashMap (Vec ℕ) ℕ S) (d : Bool) → r.entries ≡ s.entries → IsIndexed t l f s d → IsIndexed t l f r d
+  structs_kept l f s r d e is = record { ty_firsts = is.ty_firsts; fun_firsts = is.fun_firsts; tag_firsts = λ known. places_kept tag_of s r t.structs e (is.tag_firsts known) }
 
-  pub structs_new : (t : Types) (l f s r : HashMap (Vec ℕ) ℕ S) (d : Bool) (key : Vec ℕ) (x : StructDef) → IsIndexed t l f s d → look_up nat_eq s x.tag ≡ None → key.items ≡ x.tag
-      → Updates (λ x y. pointwise nat_eq x.items y.items) s r key (Some (length t.structs)) → IsIndexed (record t { structs = t.structs ++ x ∷ [] }) l f r d
-  structs_new t l f s r d key x h none is u = record { tys = h.tys; funs = h.funs; structs = λ k. places_new tag_of s r key t.structs x (h.structs k) none is u }
+  pub structs_pushed : (l f s r q : HashMap (Vec ℕ) ℕ S) (d : Bool) (key : Vec ℕ) (x : StructDef) (numbers : List ℕ) (room : ℕ) → IsIndexed t l f s d → r.entries ≡ s.entries → numbers ≡ x.tag
+      → KeyFor (look_up nat_eq s numbers) numbers room (Some key) → Updates (λ x y. pointwise nat_eq x.items y.items) r q key (Some (length t.structs)) → IsIndexed (record t { structs = t.structs ++ x ∷ [] }) l f q d
+  structs_pushed l f s r q d key x numbers room is e same k u = record { ty_firsts = is.ty_firsts; fun_firsts = is.fun_firsts; tag_firsts = λ known. pushed tag_of s r q key t.structs x numbers room (is.tag_firsts known) e same k u }
 
-  pub structs_again : (t : Types) (l f s : HashMap (Vec ℕ) ℕ S) (d : Bool) (x : StructDef) → IsIndexed t l f s d → IsSome (look_up nat_eq s x.tag) → IsIndexed (record t { structs = t.structs ++ x ∷ [] }) l f s d
-  structs_again t l f s d x h some = record { tys = h.tys; funs = h.funs; structs = λ k. places_again tag_of s t.structs x (h.structs k) some }
+  pub structs_repeated : (l f s r : HashMap (Vec ℕ) ℕ S) (d : Bool) (x : StructDef) (numbers : List ℕ) (room : ℕ) → IsIndexed t l f s d → r.entries ≡ s.entries → numbers ≡ x.tag
+      → KeyFor (look_up nat_eq s numbers) numbers room None → IsIndexed (record t { structs = t.structs ++ x ∷ [] }) l f r d
+  structs_repeated l f s r d x numbers room is e same k = record { ty_firsts = is.ty_firsts; fun_firsts = is.fun_firsts; tag_firsts = λ known. repeated tag_of s r t.structs x numbers room (is.tag_firsts known) e same k }
 
-  -- a struct in the place of another of its tag
-  pub struct_set : (t : Types) (l f s : HashMap (Vec ℕ) ℕ S) (known kept : Bool) (place : ℕ) (x : StructDef) → kept ≡ keeps_tag (slice_get t.structs place) x.tag → IsIndexed t l f s known
-      → IsIndexed (record t { structs = slice_set t.structs place x }) l f s (known && kept)
-  struct_set t l f s known kept place x e h = record {
-    tys = h.tys;
-    funs = h.funs;
-    structs = λ b. let both = and_parts known kept b in places_set tag_of s t.structs place x (λ y is. same y is (sym e ∙ both.1)) (h.structs both.0);
+  -- a struct in the place of another, whose tags are known on where it has the same one
+  pub struct_set : (l f s : HashMap (Vec ℕ) ℕ S) (known d : Bool) (place : ℕ) (x : StructDef) → (d ≡ true → (known ≡ true) × (keeps_tag (slice_get t.structs place) x.tag ≡ true)) → IsIndexed t l f s known
+      → IsIndexed (record t { structs = slice_set t.structs place x }) l f s d
+  struct_set l f s known d place x told is = record {
+    ty_firsts = is.ty_firsts;
+    fun_firsts = is.fun_firsts;
+    tag_firsts = λ b. places_set tag_of s t.structs place x (λ y there. same_tag t.structs place x y there (told b).1) (is.tag_firsts (told b).0);
   }
-    where
-      same : (y : StructDef) → slice_get t.structs place ≡ Some y → keeps_tag (slice_get t.structs place) x.tag ≡ true → y.tag ≡ x.tag
-      same y is k = (bytes_decides y.tag x.tag).0 (ap (λ o. keeps_tag o x.tag) (sym is) ∙ k)

@@ -79,6 +79,6 @@ keeps_tag (Some s) tag = bytes_eq s.tag tag
 
 -- What a table of types keeps: the first place of each type, and of each tag while the tags are known.
 pub record IsIndexed {S : Type 0} (types : Types) (tys funs structs : HashMap (Vec ℕ) ℕ S) (known : Bool) : Type 0 where
-  pub tys : Places ty_key tys types.tys
-  pub funs : Places fun_key funs types.funs
-  pub structs : known ≡ true → Places (λ (s : StructDef). s.tag) structs types.structs
+  pub ty_firsts : Places ty_key tys types.tys
+  pub fun_firsts : Places fun_key funs types.funs
+  pub tag_firsts : known ≡ true → Places (λ (s : StructDef). s.tag) structs types.structs

@@ -52,7 +52,6 @@ fn add_key(ty: Ty, key: &mut Vec<u64>) -> Result<(), AllocError>
 }
 
 /// The numbers of types in order, behind others.
-#[tactic(auto, using(crate::proofs::KeyLaws::keys_more))]
 fn add_keys(tys: &[Ty], key: &mut Vec<u64>) -> Result<(), AllocError>
     ensures { OnOk result (key.new.items ≡ key.old.items ++ keys_of tys.now) }
 {

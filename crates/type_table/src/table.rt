@@ -79,7 +79,7 @@ impl TypeTable {
     }
 
     /// The types in order.
-    pub fn types(&self) -> &Types
+    pub fn as_types(&self) -> &Types
         ensures { result.now ≡ self.now }
     {
         &self.types
@@ -145,7 +145,9 @@ impl TypeTable {
                 self.types.tys.push(ty)?;
                 put_key(key, at, &mut self.ty_places);
             }
-            None => self.types.tys.push(ty)?,
+            None => {
+                self.types.tys.push(ty)?;
+            }
         }
         Ok(())
     }
@@ -167,7 +169,9 @@ impl TypeTable {
                 self.types.funs.push(f)?;
                 put_key(key, at, &mut self.fun_places);
             }
-            None => self.types.funs.push(f)?,
+            None => {
+                self.types.funs.push(f)?;
+            }
         }
         Ok(())
     }
@@ -188,7 +192,9 @@ impl TypeTable {
                 self.types.structs.push(s)?;
                 put_key(key, at, &mut self.struct_places);
             }
-            None => self.types.structs.push(s)?,
+            None => {
+                self.types.structs.push(s)?;
+            }
         }
         Ok(())
     }
@@ -197,7 +203,11 @@ impl TypeTable {
     pub fn set_struct(&mut self, place: usize, definition: StructDef)
         ensures { self.new ≡ record self.old { structs = slice_set self.old.structs place definition } }
     {
-        let kept = keeps_tag(self.types.structs.as_slice(), place, definition.tag.as_slice());
+        let kept = keeps_tag(
+            self.types.structs.as_slice(),
+            place,
+            definition.tag.as_slice(),
+        );
         put_struct(&mut self.types.structs, place, definition);
         self.tags_known = self.tags_known && kept;
     }
