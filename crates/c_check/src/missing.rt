@@ -9,7 +9,7 @@ use crate::refusals::CheckRefusal;
 use c_program::{FunDef, GlobalDef};
 use c_tree::{Item, Name, Unit};
 use c_types::{FunTy, IntTy, Ty};
-use c_typing::{Progress, TypeKind};
+use c_typing::{ByName, Progress, TypeKind};
 use check_types::is_same_type;
 use named_rows::NamedRows;
 
@@ -24,7 +24,7 @@ fn has_function_body(functions: &[FunDef], name: &[u8]) -> bool
 
 /// A function that stands without a body is undefined unless a later one of its name has one.
 #[tactic(auto, using(crate::proofs::DefinedLaws::function_unnamed, crate::proofs::DefinedLaws::function_bodied))]
-fn is_function_defined(functions: &NamedRows<FunDef>, name: &[u8]) -> bool
+fn is_function_defined(functions: &NamedRows<FunDef, ByName>, name: &[u8]) -> bool
     ensures { result ≡ list_any (defines_function name.now) functions.now }
 {
     match functions.find_row(name) {
@@ -45,7 +45,7 @@ fn has_global_body(globals: &[GlobalDef], name: &[u8]) -> bool
 
 /// A global that stands without a body is undefined unless a later one of its name has one.
 #[tactic(auto, using(crate::proofs::DefinedLaws::global_unnamed, crate::proofs::DefinedLaws::global_bodied))]
-fn is_global_defined(globals: &NamedRows<GlobalDef>, name: &[u8]) -> bool
+fn is_global_defined(globals: &NamedRows<GlobalDef, ByName>, name: &[u8]) -> bool
     ensures { result ≡ list_any (defines_global name.now) globals.now }
 {
     match globals.find_row(name) {

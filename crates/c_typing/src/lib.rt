@@ -18,4 +18,4 @@ pub use faults::{Fault, Refusal, TypeKind, UnitFault};
 pub use laws::example_answers;
 pub use operands::{Designated, Operand, Value};
 pub use scopes::{LocalMeaning, LocalName, LocalScope, Meaning, UnitName, UnitScope, UnitTag};
-pub use tables::{Enclosing, Progress, Tables};
+pub use tables::{ByName, Enclosing, Progress, Tables};

@@ -24,7 +24,11 @@ pub struct Enclosing {
     pub variadic: bool,
 }
 
-impl Named for GlobalDef {
+/// The names of a program's rows.
+#[derive(Clone, Copy, Debug, PartialEq, Eq)]
+pub struct ByName;
+
+impl Named<ByName> for GlobalDef {
     ghost name = { λ row. row.name };
 
     fn name(&self) -> &[u8] {
@@ -32,7 +36,7 @@ impl Named for GlobalDef {
     }
 }
 
-impl Named for FunDef {
+impl Named<ByName> for FunDef {
     ghost name = { λ row. row.name };
 
     fn name(&self) -> &[u8] {
@@ -40,7 +44,7 @@ impl Named for FunDef {
     }
 }
 
-impl Named for AdjustDef {
+impl Named<ByName> for AdjustDef {
     ghost name = { λ row. row.name };
 
     fn name(&self) -> &[u8] {
@@ -53,9 +57,9 @@ impl Named for AdjustDef {
 #[derive(Drop)]
 pub struct Progress {
     pub tables: Tables,
-    pub globals: NamedRows<GlobalDef>,
-    pub functions: NamedRows<FunDef>,
-    pub adjustors: NamedRows<AdjustDef>,
+    pub globals: NamedRows<GlobalDef, ByName>,
+    pub functions: NamedRows<FunDef, ByName>,
+    pub adjustors: NamedRows<AdjustDef, ByName>,
     pub defined: u32,
     pub scope: UnitScope,
 }

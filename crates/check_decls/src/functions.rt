@@ -11,7 +11,7 @@ use crate::names::{
 use c_program::{FunDef, FunctionBody, TypedItem};
 use c_tree::{FunctionHead, Name};
 use c_types::{FunTy, Ty};
-use c_typing::{Enclosing, Meaning, Progress, Refusal, TypeKind};
+use c_typing::{ByName, Enclosing, Meaning, Progress, Refusal, TypeKind};
 use check_types::{refusal, small_place};
 use hx_words::Items;
 use named_rows::NamedRows;
@@ -89,7 +89,7 @@ fn new_function(
     alloc: Global,
     name: &Name,
     ty: u32,
-    functions: &mut NamedRows<FunDef>,
+    functions: &mut NamedRows<FunDef, ByName>,
 ) -> Result<u32, Refusal>
     ensures place { Tells (Ok (length functions.old)) result }
     ensures grown { OnOk result (functions.new ≡ functions.old ++ (record { name = name.now.text; ty = ty; body = None }) ∷ []) }
@@ -262,7 +262,7 @@ fn put_body(
     alloc: Global,
     place: u32,
     body: FunctionBody,
-    functions: &mut NamedRows<FunDef>,
+    functions: &mut NamedRows<FunDef, ByName>,
 ) -> Result<(), AllocError>
     ensures { OnOk result (functions.new ≡ with_body (Some body) (slice_get functions.old place) functions.old place) }
 {

@@ -9,7 +9,7 @@ use crate::names::{check_untaken, declare_name, find_global, is_no_global, with_
 use c_program::{Constant, GlobalBody, GlobalDef};
 use c_tree::{Base, Decl, GlobalDecl, Name};
 use c_types::Ty;
-use c_typing::{Meaning, Progress, Refusal, TypeKind};
+use c_typing::{ByName, Meaning, Progress, Refusal, TypeKind};
 use check_types::{declared_type_of, is_same_type, refusal, small_place};
 use hx_words::{Boxed, Items};
 use named_rows::NamedRows;
@@ -19,7 +19,7 @@ fn new_global(
     alloc: Global,
     name: &Name,
     ty: Ty,
-    globals: &mut NamedRows<GlobalDef>,
+    globals: &mut NamedRows<GlobalDef, ByName>,
 ) -> Result<u32, Refusal>
     ensures place { Tells (Ok (length globals.old)) result }
     ensures grown { OnOk result (globals.new ≡ globals.old ++ (record { name = name.now.text; ty = ty; body = None }) ∷ []) }

@@ -6,28 +6,28 @@ ghost use Rattle.check_decls.specs.Steps.{unless, refused_standing};
 
 use c_program::{AdjustDef, FunDef, GlobalDef};
 use c_tree::Name;
-use c_typing::{Meaning, Progress, Refusal, TypeKind, UnitName, UnitScope};
+use c_typing::{ByName, Meaning, Progress, Refusal, TypeKind, UnitName, UnitScope};
 use check_types::{find_meaning, find_service, is_import_slot_name, refusal};
 use hx_words::Items;
 use named_rows::NamedRows;
 use std::alloc::{AllocError, Global};
 
 /// The place of the global of this name. It takes no memory.
-pub fn find_global(globals: &NamedRows<GlobalDef>, name: &[u8]) -> Option<usize>
+pub fn find_global(globals: &NamedRows<GlobalDef, ByName>, name: &[u8]) -> Option<usize>
     ensures { result ≡ global_named globals.now name.now }
 {
     globals.find(name)
 }
 
 /// The place of the function of this name. It takes no memory.
-pub fn find_function(functions: &NamedRows<FunDef>, name: &[u8]) -> Option<usize>
+pub fn find_function(functions: &NamedRows<FunDef, ByName>, name: &[u8]) -> Option<usize>
     ensures { result ≡ function_named functions.now name.now }
 {
     functions.find(name)
 }
 
 /// The place of the adjustor of this name. It takes no memory.
-pub fn find_adjustor(adjustors: &NamedRows<AdjustDef>, name: &[u8]) -> Option<usize>
+pub fn find_adjustor(adjustors: &NamedRows<AdjustDef, ByName>, name: &[u8]) -> Option<usize>
     ensures { result ≡ adjustor_named adjustors.now name.now }
 {
     adjustors.find(name)

@@ -8,19 +8,20 @@ use crate::places::{key_for, place_of, put_key};
 use hx_words::Items;
 use indexmap::IndexMap;
 use std::alloc::{AllocError, Global};
-use std::marker::Model;
+use std::marker::{Model, PhantomData};
 
 /// Rows in order, of which the first of a name is found by an index. A contract sees the rows.
 #[derive(Drop)]
-pub struct NamedRows<T: Named> {
+pub struct NamedRows<T: Named<By>, By = ()> {
     alloc: Global,
     rows: Items<T>,
     places: IndexMap<Vec<u8>, usize>,
     /// False once two rows may have one name.
     distinct: bool,
+    by: PhantomData<By>,
 }
 
-impl<T: Named> Model for NamedRows<T> {
+impl<T: Named<By>, By> Model for NamedRows<T, By> {
     ghost use Rattle.std.specs.Prelude.{List};
     ghost use Rattle.std.specs.Coded.{coded_list};
     ghost use Rattle.named_rows.specs.Places.{IsIndexed};
@@ -34,9 +35,9 @@ impl<T: Named> Model for NamedRows<T> {
     ghost invariant = { λ it. IsIndexed T.name it.places it.distinct it.rows };
 }
 
-impl<T: Named> NamedRows<T> {
+impl<T: Named<By>, By> NamedRows<T, By> {
     /// No rows yet.
-    pub fn new(alloc: Global) -> NamedRows<T>
+    pub fn new(alloc: Global) -> NamedRows<T, By>
         ensures { result ≡ [] }
     {
         NamedRows {
@@ -44,6 +45,7 @@ impl<T: Named> NamedRows<T> {
             rows: Items::new(alloc),
             places: IndexMap::new(alloc),
             distinct: true,
+            by: PhantomData,
         }
     }
 
@@ -102,12 +104,13 @@ impl<T: Named> NamedRows<T> {
             rows,
             places: _,
             distinct: _,
+            by: _,
         } = self;
         rows
     }
 }
 
-impl<T: Named + Drop> NamedRows<T> {
+impl<T: Named<By> + Drop, By> NamedRows<T, By> {
     /// One more row at the end. Where its name stands already, the first row of that name stays found.
     ///
     /// # Errors

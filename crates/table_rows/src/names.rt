@@ -68,7 +68,7 @@ fn first_of_a_name(rt: HostRuntime) -> Result<(), Fail> {
 fn another_row_of_the_name(rt: HostRuntime) -> Result<(), Fail> {
     let mut rows = rows_of(rt.alloc(), b"aba")?;
     let name = Items::from_slice(rt.alloc(), b"b")?;
-    if rows.get(1).is_some_and(|row| row.name() == b"b") {
+    if rows.get(1).is_some_and(|row| row.name() == b"b".as_slice()) {
         rows.set(1, Letter { name });
     }
     assert_eq!(rt; rows.find(b"b"), Some(1));
