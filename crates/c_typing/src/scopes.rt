@@ -2,6 +2,10 @@ use c_types::Ty;
 use hx_words::Items;
 use named_rows::{Named, NamedRows};
 
+/// The sort of names by which the checker's rows are found.
+#[derive(Clone, Copy, Debug, PartialEq, Eq)]
+pub struct ByName;
+
 /// What a name that a unit declares means.
 #[derive(Clone, Copy, Debug, PartialEq, Eq)]
 pub enum Meaning {
@@ -22,7 +26,7 @@ pub struct UnitName {
     pub meaning: Meaning,
 }
 
-impl Named for UnitName {
+impl Named<ByName> for UnitName {
     ghost name = { λ row. row.name };
 
     fn name(&self) -> &[u8] {
@@ -39,7 +43,7 @@ pub struct UnitTag {
     pub complete: bool,
 }
 
-impl Named for UnitTag {
+impl Named<ByName> for UnitTag {
     ghost name = { λ row. row.name };
 
     fn name(&self) -> &[u8] {
@@ -50,8 +54,8 @@ impl Named for UnitTag {
 /// What a unit has declared so far. Each name and each tag stands once.
 #[derive(Drop)]
 pub struct UnitScope {
-    pub names: NamedRows<UnitName>,
-    pub tags: NamedRows<UnitTag>,
+    pub names: NamedRows<UnitName, ByName>,
+    pub tags: NamedRows<UnitTag, ByName>,
 }
 
 /// What a name that a function's body declares means.
@@ -69,7 +73,7 @@ pub struct LocalName {
     pub meaning: LocalMeaning,
 }
 
-impl Named for LocalName {
+impl Named<ByName> for LocalName {
     ghost name = { λ row. row.name };
 
     fn name(&self) -> &[u8] {
@@ -81,6 +85,6 @@ impl Named for LocalName {
 /// around it, the outermost first. Each name stands once in a block.
 #[derive(Drop)]
 pub struct LocalScope {
-    pub own: NamedRows<LocalName>,
-    pub outer: Items<NamedRows<LocalName>>,
+    pub own: NamedRows<LocalName, ByName>,
+    pub outer: Items<NamedRows<LocalName, ByName>>,
 }

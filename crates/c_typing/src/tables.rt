@@ -1,4 +1,4 @@
-use crate::scopes::UnitScope;
+use crate::scopes::{ByName, UnitScope};
 use c_program::{AdjustDef, FunDef, GlobalDef};
 use c_types::Ty;
 use hx_words::Items;
@@ -23,10 +23,6 @@ pub struct Enclosing {
     pub parameters: u32,
     pub variadic: bool,
 }
-
-/// The names of a program's rows.
-#[derive(Clone, Copy, Debug, PartialEq, Eq)]
-pub struct ByName;
 
 impl Named<ByName> for GlobalDef {
     ghost name = { λ row. row.name };

@@ -10,7 +10,7 @@ ghost use Rattle.check_decls.specs.Steps.{tag_name, completed_at, compared_field
 
 use c_tree::{Base, Decl, Field, Name};
 use c_types::{FieldDef, StructDef, Ty, Types, layout};
-use c_typing::{Progress, Refusal, Tables, TypeKind, UnitScope, UnitTag};
+use c_typing::{ByName, Progress, Refusal, Tables, TypeKind, UnitScope, UnitTag};
 use check_types::{MOST_BYTES, declared_type_of, find_tag, is_same_type, refusal, small_place};
 use hx_words::Items;
 use named_rows::NamedRows;
@@ -147,7 +147,7 @@ fn complete_at(
     alloc: Global,
     name: &[u8],
     at: usize,
-    tags: &mut NamedRows<UnitTag>,
+    tags: &mut NamedRows<UnitTag, ByName>,
 ) -> Result<(), AllocError>
     ensures { OnOk result (tags.new ≡ completed_at name.now at tags.old) }
 {
@@ -171,7 +171,7 @@ fn complete_at(
 fn complete_each(
     alloc: Global,
     name: &[u8],
-    tags: &mut NamedRows<UnitTag>,
+    tags: &mut NamedRows<UnitTag, ByName>,
 ) -> Result<(), AllocError>
     ensures { OnOk result (tags.new ≡ completed tags.old name.now) }
 {
@@ -186,7 +186,7 @@ fn complete_each(
 fn complete_only(
     alloc: Global,
     name: &[u8],
-    tags: &mut NamedRows<UnitTag>,
+    tags: &mut NamedRows<UnitTag, ByName>,
 ) -> Result<(), AllocError>
     requires { AreDistinct tag_name tags.old }
     ensures { OnOk result (tags.new ≡ completed tags.old name.now) }
@@ -203,7 +203,7 @@ fn complete_only(
 fn complete_tags(
     alloc: Global,
     name: &[u8],
-    tags: &mut NamedRows<UnitTag>,
+    tags: &mut NamedRows<UnitTag, ByName>,
 ) -> Result<(), AllocError>
     ensures { OnOk result (tags.new ≡ completed tags.old name.now) }
 {

@@ -5,7 +5,9 @@ ghost use Rattle.c_typing.specs.TypeForms.{field_from, field_of};
 
 use c_program::{Place, Service, Target};
 use c_types::{FieldDef, Ty, Types};
-use c_typing::{Designated, LocalMeaning, LocalName, LocalScope, Meaning, UnitScope, UnitTag};
+use c_typing::{
+    ByName, Designated, LocalMeaning, LocalName, LocalScope, Meaning, UnitScope, UnitTag,
+};
 use hx_words::Boxed;
 use named_rows::NamedRows;
 use std::alloc::{AllocError, Global};
@@ -27,7 +29,7 @@ pub fn find_tag<'a>(unit: &'a UnitScope, name: &[u8]) -> Option<&'a UnitTag>
     unit.tags.find_row(name)
 }
 
-fn first_local(block: &NamedRows<LocalName>, name: &[u8]) -> Option<LocalMeaning>
+fn first_local(block: &NamedRows<LocalName, ByName>, name: &[u8]) -> Option<LocalMeaning>
     ensures { result ≡ in_block block.now name.now }
 {
     match block.find_row(name) {
@@ -37,7 +39,7 @@ fn first_local(block: &NamedRows<LocalName>, name: &[u8]) -> Option<LocalMeaning
 }
 
 /// In blocks of which the last is the innermost.
-fn innermost(blocks: &[NamedRows<LocalName>], name: &[u8]) -> Option<LocalMeaning>
+fn innermost(blocks: &[NamedRows<LocalName, ByName>], name: &[u8]) -> Option<LocalMeaning>
     ensures { result ≡ in_blocks blocks.now name.now }
 {
     let mut found = None;

@@ -12,7 +12,7 @@ use std::marker::{Model, PhantomData};
 
 /// Rows in order, of which the first of a name is found by an index. A contract sees the rows.
 #[derive(Drop)]
-pub struct NamedRows<T: Named<By>, By = ()> {
+pub struct NamedRows<T: Named<By>, By> {
     alloc: Global,
     rows: Items<T>,
     places: IndexMap<Vec<u8>, usize>,

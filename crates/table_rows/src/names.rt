@@ -11,7 +11,7 @@ struct Letter {
     name: Items<u8>,
 }
 
-impl Named for Letter {
+impl Named<()> for Letter {
     ghost name = { λ row. row.name };
 
     fn name(&self) -> &[u8] {
@@ -33,7 +33,7 @@ static ROWS: [Row; 8] = [
     (b"abc", b"", None, true),
 ];
 
-fn rows_of(alloc: Global, letters: &[u8]) -> Result<NamedRows<Letter>, AllocError> {
+fn rows_of(alloc: Global, letters: &[u8]) -> Result<NamedRows<Letter, ()>, AllocError> {
     let mut rows = NamedRows::new(alloc);
     for letter in letters {
         let name = Items::from_slice(alloc, &[*letter])?;
