@@ -158,7 +158,7 @@ fn complete_at(
         return Ok(());
     }
     let tag = UnitTag {
-        name: Items::from_slice(alloc, name)?,
+        name: Items::from_slice(alloc, tag.name.as_slice())?,
         place: tag.place,
         complete: true,
     };

@@ -1,5 +1,5 @@
 -- What a name means is told by the first row of the name.
-use Rattle.std.proofs.Common.{◌≡◌, ℕ, true, false, List, [], ◌∷◌, Option, Some, None, bytes_eq, if◌then◌else◌, refl, sym, ap, ◌∙◌}
+use Rattle.std.proofs.Common.{◌≡◌, ℕ, true, false, List, [], ◌∷◌, Some, None, bytes_eq, if◌then◌else◌, refl, sym, ap, ◌∙◌}
 use Rattle.std.specs.Prelude.{find, option_map}
 use Rattle.c_typing.specs.declared.scopes.Meaning.{Meaning}
 use Rattle.c_typing.specs.declared.scopes.UnitName.{UnitName}

@@ -1,5 +1,5 @@
 -- One more row: its index gets its numbers, or has them already.
-use Rattle.std.proofs.Common.{◌≡◌, ℕ, List, Option, Some, None, length, sym, subst, ◌∙◌}
+use Rattle.std.proofs.Common.{ℕ, List, Option, Some, None, length, sym, subst, ◌∙◌}
 use Rattle.std.specs.Prelude.{nat_eq}
 use Rattle.std.specs.Global.{Vec}
 use Rattle.std.specs.HashMap.{Updates, spare}
