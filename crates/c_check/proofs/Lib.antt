@@ -1,2 +1,3 @@
 pub mod NodeLaws
 pub mod UnitLaws
+pub mod DefinedLaws

@@ -18,6 +18,7 @@ use check_decls::{
 };
 use check_stmt::type_items;
 use hx_words::Items;
+use named_rows::NamedRows;
 use std::alloc::Global;
 
 /// The parameters of a definition, and the locals that they are.
@@ -30,7 +31,7 @@ fn scoped_parameters(
     ensures { LeavesScoped (with_scope (λ s. visit_parameters s head.now.params.list) state.old) result state.new }
 {
     let mut locals = LocalScope {
-        own: Items::new(alloc),
+        own: NamedRows::new(alloc),
         outer: Items::new(alloc),
     };
     let params = head.params.list.as_slice();
@@ -75,7 +76,7 @@ fn define_declared(
     ensures { Leaves (defined_behind unit declared parameters items.now state.old) result state.new }
 {
     let (place, ty) = declared;
-    let f = enclosing(state.tables.types.funs.as_slice(), ty)?;
+    let f = enclosing(state.tables.types.as_types().funs.as_slice(), ty)?;
     let (block, _) = scoped_body(alloc, f, items, parameters, state)?;
     define_body(alloc, unit, place, block, state)?;
     Ok(())
@@ -141,8 +142,8 @@ fn no_names_of(alloc: Global) -> UnitScope
     ensures { result ≡ no_names }
 {
     UnitScope {
-        names: Items::new(alloc),
-        tags: Items::new(alloc),
+        names: NamedRows::new(alloc),
+        tags: NamedRows::new(alloc),
     }
 }
 

@@ -9,10 +9,12 @@ use crate::refusals::CheckRefusal;
 use c_program::{FunDef, GlobalDef};
 use c_tree::{Item, Name, Unit};
 use c_types::{FunTy, IntTy, Ty};
-use c_typing::{Progress, TypeKind};
+use c_typing::{ByName, Progress, TypeKind};
 use check_types::is_same_type;
+use named_rows::NamedRows;
 
-fn is_function_defined(functions: &[FunDef], name: &[u8]) -> bool
+/// Whether a function of this name has a body, by a walk.
+fn has_function_body(functions: &[FunDef], name: &[u8]) -> bool
     ensures { result ≡ list_any (defines_function name.now) functions.now }
 {
     functions
@@ -20,12 +22,37 @@ fn is_function_defined(functions: &[FunDef], name: &[u8]) -> bool
         .any(|f| f.name.as_slice() == name && f.body.is_some())
 }
 
-fn is_global_defined(globals: &[GlobalDef], name: &[u8]) -> bool
+/// A function that stands without a body is undefined unless a later one of its name has one.
+#[tactic(auto, using(crate::proofs::DefinedLaws::function_unnamed, crate::proofs::DefinedLaws::function_bodied))]
+fn is_function_defined(functions: &NamedRows<FunDef, ByName>, name: &[u8]) -> bool
+    ensures { result ≡ list_any (defines_function name.now) functions.now }
+{
+    match functions.find_row(name) {
+        None => false,
+        Some(f) if f.body.is_some() => true,
+        Some(_) => has_function_body(functions.as_slice(), name),
+    }
+}
+
+/// Whether a global of this name has a body, by a walk.
+fn has_global_body(globals: &[GlobalDef], name: &[u8]) -> bool
     ensures { result ≡ list_any (defines_global name.now) globals.now }
 {
     globals
         .iter()
         .any(|g| g.name.as_slice() == name && g.body.is_some())
+}
+
+/// A global that stands without a body is undefined unless a later one of its name has one.
+#[tactic(auto, using(crate::proofs::DefinedLaws::global_unnamed, crate::proofs::DefinedLaws::global_bodied))]
+fn is_global_defined(globals: &NamedRows<GlobalDef, ByName>, name: &[u8]) -> bool
+    ensures { result ≡ list_any (defines_global name.now) globals.now }
+{
+    match globals.find_row(name) {
+        None => false,
+        Some(g) if g.body.is_some() => true,
+        Some(_) => has_global_body(globals.as_slice(), name),
+    }
 }
 
 fn unless_defined(defined: bool, name: &Name) -> Option<u32>
@@ -40,17 +67,11 @@ fn undefined_item(state: &Progress, item: &Item) -> Option<u32>
     match item {
         Item::Extern(_, _, decl) => {
             let name = decl.name.text.as_slice();
-            unless_defined(
-                is_global_defined(state.globals.as_slice(), name),
-                &decl.name,
-            )
+            unless_defined(is_global_defined(&state.globals, name), &decl.name)
         }
         Item::Declare(head) => {
             let name = head.name.text.as_slice();
-            unless_defined(
-                is_function_defined(state.functions.as_slice(), name),
-                &head.name,
-            )
+            unless_defined(is_function_defined(&state.functions, name), &head.name)
         }
         _ => None,
     }
@@ -139,7 +160,7 @@ fn has_a_main(state: &Progress) -> bool
     ensures { result ≡ has_main state.now }
 {
     defines_a_main(
-        state.tables.types.funs.as_slice(),
+        state.tables.types.as_types().funs.as_slice(),
         state.functions.as_slice(),
     )
 }

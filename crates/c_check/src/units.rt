@@ -8,35 +8,31 @@ use crate::nodes::nodes_of_units;
 use crate::refusals::CheckRefusal;
 use c_program::Program;
 use c_tree::Unit;
-use c_types::Types;
 use c_typing::{Progress, Refusal, Tables, UnitScope};
 use hx_words::Items;
+use named_rows::NamedRows;
 use std::alloc::Global;
+use type_table::TypeTable;
 
 /// A program before its first unit.
 fn start(alloc: Global) -> Progress
     ensures { result ≡ nothing_yet }
 {
-    let types = Types {
-        tys: Items::new(alloc),
-        structs: Items::new(alloc),
-        funs: Items::new(alloc),
-    };
     let tables = Tables {
-        types,
+        types: TypeTable::new(alloc),
         locals: Items::new(alloc),
         has_list: false,
         extras: 0,
     };
     let scope = UnitScope {
-        names: Items::new(alloc),
-        tags: Items::new(alloc),
+        names: NamedRows::new(alloc),
+        tags: NamedRows::new(alloc),
     };
     Progress {
         tables,
-        globals: Items::new(alloc),
-        functions: Items::new(alloc),
-        adjustors: Items::new(alloc),
+        globals: NamedRows::new(alloc),
+        functions: NamedRows::new(alloc),
+        adjustors: NamedRows::new(alloc),
         defined: 0,
         scope,
     }
@@ -89,10 +85,10 @@ fn finish(units: &[Unit], state: Progress) -> Program
         extras,
     } = tables;
     Program {
-        types,
-        globals,
-        functions,
-        adjustors,
+        types: types.into_types(),
+        globals: globals.into_items(),
+        functions: functions.into_items(),
+        adjustors: adjustors.into_items(),
         other_nodes: nodes_of_units(units),
         extras,
     }

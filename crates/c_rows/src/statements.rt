@@ -4,18 +4,20 @@ mod building;
 mod printing;
 
 use building::block_of;
-use c_types::{IntTy, Ty, Types};
+use c_types::{IntTy, Ty};
 use c_typing::{
     Enclosing, Fault, LocalMeaning, LocalName, LocalScope, Meaning, Refusal, Tables, UnitName,
     UnitScope,
 };
 use check_stmt::type_items;
 use hx_words::Items;
+use named_rows::NamedRows;
 use printing::show_items;
 use std::alloc::{AllocError, Global};
 use std::fmt::Write;
 use std::process::Abort;
 use std::test::Fail;
+use type_table::TypeTable;
 
 const INT: Ty = Ty::Int(IntTy::I32);
 
@@ -85,16 +87,16 @@ static IN_VOID: [Row; 4] = [
 ];
 
 fn unit_scope(alloc: Global) -> Result<UnitScope, AllocError> {
-    let mut names = Items::new(alloc);
+    let mut names = NamedRows::new(alloc);
     let name = Items::from_slice(alloc, b"s")?;
     let meaning = Meaning::Global(0, Ty::Struct(0));
     names.push(UnitName { name, meaning })?;
-    let tags = Items::new(alloc);
+    let tags = NamedRows::new(alloc);
     Ok(UnitScope { names, tags })
 }
 
 fn parameters(alloc: Global) -> Result<LocalScope, AllocError> {
-    let mut own = Items::new(alloc);
+    let mut own = NamedRows::new(alloc);
     let name = Items::from_slice(alloc, b"p")?;
     let meaning = LocalMeaning::Variable(0, INT);
     own.push(LocalName { name, meaning })?;
@@ -103,14 +105,9 @@ fn parameters(alloc: Global) -> Result<LocalScope, AllocError> {
 }
 
 fn tables(alloc: Global) -> Result<Tables, AllocError> {
-    let types = Types {
-        tys: Items::new(alloc),
-        structs: Items::new(alloc),
-        funs: Items::new(alloc),
-    };
     let locals = Items::from_slice(alloc, &[INT])?;
     Ok(Tables {
-        types,
+        types: TypeTable::new(alloc),
         locals,
         has_list: false,
         extras: 0,

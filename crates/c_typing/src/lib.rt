@@ -17,5 +17,7 @@ mod tables;
 pub use faults::{Fault, Refusal, TypeKind, UnitFault};
 pub use laws::example_answers;
 pub use operands::{Designated, Operand, Value};
-pub use scopes::{LocalMeaning, LocalName, LocalScope, Meaning, UnitName, UnitScope, UnitTag};
+pub use scopes::{
+    ByName, LocalMeaning, LocalName, LocalScope, Meaning, UnitName, UnitScope, UnitTag,
+};
 pub use tables::{Enclosing, Progress, Tables};

@@ -1,5 +1,10 @@
 use c_types::Ty;
 use hx_words::Items;
+use named_rows::{Named, NamedRows};
+
+/// The sort of names by which the checker's rows are found.
+#[derive(Clone, Copy, Debug, PartialEq, Eq)]
+pub struct ByName;
 
 /// What a name that a unit declares means.
 #[derive(Clone, Copy, Debug, PartialEq, Eq)]
@@ -21,6 +26,14 @@ pub struct UnitName {
     pub meaning: Meaning,
 }
 
+impl Named<ByName> for UnitName {
+    ghost name = { λ row. row.name };
+
+    fn name(&self) -> &[u8] {
+        self.name.as_slice()
+    }
+}
+
 /// A tag of a unit, with the struct's place in `structs`. It is complete from the end of the struct's
 /// definition in this unit on.
 #[derive(Drop)]
@@ -30,11 +43,19 @@ pub struct UnitTag {
     pub complete: bool,
 }
 
+impl Named<ByName> for UnitTag {
+    ghost name = { λ row. row.name };
+
+    fn name(&self) -> &[u8] {
+        self.name.as_slice()
+    }
+}
+
 /// What a unit has declared so far. Each name and each tag stands once.
 #[derive(Drop)]
 pub struct UnitScope {
-    pub names: Items<UnitName>,
-    pub tags: Items<UnitTag>,
+    pub names: NamedRows<UnitName, ByName>,
+    pub tags: NamedRows<UnitTag, ByName>,
 }
 
 /// What a name that a function's body declares means.
@@ -52,10 +73,18 @@ pub struct LocalName {
     pub meaning: LocalMeaning,
 }
 
+impl Named<ByName> for LocalName {
+    ghost name = { λ row. row.name };
+
+    fn name(&self) -> &[u8] {
+        self.name.as_slice()
+    }
+}
+
 /// What the blocks around a place in a body have declared so far: the innermost block, and those
 /// around it, the outermost first. Each name stands once in a block.
 #[derive(Drop)]
 pub struct LocalScope {
-    pub own: Items<LocalName>,
-    pub outer: Items<Items<LocalName>>,
+    pub own: NamedRows<LocalName, ByName>,
+    pub outer: Items<NamedRows<LocalName, ByName>>,
 }

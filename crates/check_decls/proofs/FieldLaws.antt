@@ -13,13 +13,13 @@ same_counts [] (g ∷ gs) h = refl
 same_counts (f ∷ fs) [] h = refl
 same_counts (f ∷ fs) (g ∷ gs) h = ap (λ b. bytes_eq f.name g.name && same_type f.ty g.ty && b) (same_counts fs gs (λ e. h (ap suc e))) ∙ and-false (bytes_eq f.name g.name && same_type f.ty g.ty)
 
-shift : (name : List ℕ) (i : ℕ) (t : UnitTag) (ts : List UnitTag) → completed_at name (suc i) (t ∷ ts) ≡ t ∷ completed_at name i ts
+pub shift : (name : List ℕ) (i : ℕ) (t : UnitTag) (ts : List UnitTag) → completed_at name (suc i) (t ∷ ts) ≡ t ∷ completed_at name i ts
 shift name i t ts = elim (slice_get ts i) as (λ o. set_completed name (suc i) (t ∷ ts) o ≡ t ∷ set_completed name i ts o) [ None ↦ refl | Some x ↦ shift-found name i t ts x ]
   where
     shift-found : (name : List ℕ) (i : ℕ) (t : UnitTag) (ts : List UnitTag) (x : UnitTag) → set_completed name (suc i) (t ∷ ts) (Some x) ≡ t ∷ set_completed name i ts (Some x)
     shift-found name i t ts x = elim (bytes_eq x.name name) as (λ b. (if b then slice_set (t ∷ ts) (suc i) (record x { complete = true }) else t ∷ ts) ≡ t ∷ (if b then slice_set ts i (record x { complete = true }) else ts)) [ true ↦ refl | false ↦ refl ]
 
-first-completed : (name : List ℕ) (t : UnitTag) (ts : List UnitTag) → completed_at name 0 (t ∷ ts) ≡ completed_tag name t ∷ ts
+pub first-completed : (name : List ℕ) (t : UnitTag) (ts : List UnitTag) → completed_at name 0 (t ∷ ts) ≡ completed_tag name t ∷ ts
 first-completed name t ts = elim (bytes_eq t.name name) as (λ b. (if b then slice_set (t ∷ ts) 0 (record t { complete = true }) else t ∷ ts) ≡ (if b then record t { complete = true } else t) ∷ ts) [ true ↦ refl | false ↦ refl ]
 
 -- one more tag of those before it is completed

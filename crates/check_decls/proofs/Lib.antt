@@ -4,3 +4,4 @@ pub mod LoopEnds
 pub mod PartLaws
 pub mod TakenLaws
 pub mod AdjustorLaws
+pub mod TagLaws

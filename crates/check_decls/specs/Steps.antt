@@ -25,6 +25,9 @@ use Rattle.c_types.specs.declared.types.Span.{Span}
 use Rattle.c_typing.specs.Adjustors.{is_amount, amount_of, define_adjustor}
 use Rattle.c_typing.specs.Structs.{same_fields}
 
+abbrev pub tag_name : UnitTag → List ℕ
+tag_name t = t.name
+
 -- a tag is complete where it has the name
 abbrev pub completed_tag : List ℕ → UnitTag → UnitTag
 completed_tag name t = if bytes_eq t.name name then record t { complete = true } else t

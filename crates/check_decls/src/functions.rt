@@ -11,9 +11,10 @@ use crate::names::{
 use c_program::{FunDef, FunctionBody, TypedItem};
 use c_tree::{FunctionHead, Name};
 use c_types::{FunTy, Ty};
-use c_typing::{Enclosing, Meaning, Progress, Refusal, TypeKind};
+use c_typing::{ByName, Enclosing, Meaning, Progress, Refusal, TypeKind};
 use check_types::{refusal, small_place};
 use hx_words::Items;
+use named_rows::NamedRows;
 use std::alloc::{AllocError, Global};
 
 #[tactic(auto, unfolding(c_typing::specs::UnitVisits::with_scope))]
@@ -46,7 +47,7 @@ fn type_of_function(
 ) -> Result<u32, Refusal>
     ensures { Leaves (typed_where (λ p. is_some (function_named p.functions head.now.name.text)) (with_scope (λ unit. head_type unit head.now params)) state.old) result state.new }
 {
-    let stands = find_function(state.functions.as_slice(), head.name.text.as_slice()).is_some();
+    let stands = find_function(&state.functions, head.name.text.as_slice()).is_some();
     match scoped_head(head, params, state) {
         Ok(place) => Ok(place),
         Err(r) => Err(with_standing(stands, r)),
@@ -88,7 +89,7 @@ fn new_function(
     alloc: Global,
     name: &Name,
     ty: u32,
-    functions: &mut Items<FunDef>,
+    functions: &mut NamedRows<FunDef, ByName>,
 ) -> Result<u32, Refusal>
     ensures place { Tells (Ok (length functions.old)) result }
     ensures grown { OnOk result (functions.new ≡ functions.old ++ (record { name = name.now.text; ty = ty; body = None }) ∷ []) }
@@ -105,7 +106,7 @@ fn new_function(
 fn enter(alloc: Global, name: &Name, ty: u32, state: &mut Progress) -> Result<u32, Refusal>
     ensures { Leaves (enter_program_function name.now ty state.old) result state.new }
 {
-    let Some(place) = find_function(state.functions.as_slice(), name.text.as_slice()) else {
+    let Some(place) = find_function(&state.functions, name.text.as_slice()) else {
         return Ok(new_function(alloc, name, ty, &mut state.functions)?);
     };
     match state.functions.get(place) {
@@ -169,7 +170,7 @@ pub fn declare_head(alloc: Global, head: &FunctionHead, state: &mut Progress) ->
 fn is_defined(state: &Progress, name: &[u8]) -> bool
     ensures { result ≡ has_body (found_function state.now (function_named state.now.functions name.now)) }
 {
-    let Some(place) = find_function(state.functions.as_slice(), name) else {
+    let Some(place) = find_function(&state.functions, name) else {
         return false;
     };
     match state.functions.get(place) {
@@ -261,7 +262,7 @@ fn put_body(
     alloc: Global,
     place: u32,
     body: FunctionBody,
-    functions: &mut Items<FunDef>,
+    functions: &mut NamedRows<FunDef, ByName>,
 ) -> Result<(), AllocError>
     ensures { OnOk result (functions.new ≡ with_body (Some body) (slice_get functions.old place) functions.old place) }
 {

@@ -9,16 +9,17 @@ use crate::names::{check_untaken, declare_name, find_global, is_no_global, with_
 use c_program::{Constant, GlobalBody, GlobalDef};
 use c_tree::{Base, Decl, GlobalDecl, Name};
 use c_types::Ty;
-use c_typing::{Meaning, Progress, Refusal, TypeKind};
+use c_typing::{ByName, Meaning, Progress, Refusal, TypeKind};
 use check_types::{declared_type_of, is_same_type, refusal, small_place};
 use hx_words::{Boxed, Items};
+use named_rows::NamedRows;
 use std::alloc::Global;
 
 fn new_global(
     alloc: Global,
     name: &Name,
     ty: Ty,
-    globals: &mut Items<GlobalDef>,
+    globals: &mut NamedRows<GlobalDef, ByName>,
 ) -> Result<u32, Refusal>
     ensures place { Tells (Ok (length globals.old)) result }
     ensures grown { OnOk result (globals.new ≡ globals.old ++ (record { name = name.now.text; ty = ty; body = None }) ∷ []) }
@@ -35,7 +36,7 @@ fn new_global(
 fn enter(alloc: Global, name: &Name, ty: Ty, state: &mut Progress) -> Result<u32, Refusal>
     ensures { Leaves (enter_global name.now ty state.old) result state.new }
 {
-    let Some(place) = find_global(state.globals.as_slice(), name.text.as_slice()) else {
+    let Some(place) = find_global(&state.globals, name.text.as_slice()) else {
         return Ok(new_global(alloc, name, ty, &mut state.globals)?);
     };
     match state.globals.get(place) {
@@ -62,7 +63,7 @@ fn scoped_type(base: &Base, decl: &Decl, state: &mut Progress) -> Result<Ty, Ref
 fn type_of_global(base: &Base, decl: &Decl, state: &mut Progress) -> Result<Ty, Refusal>
     ensures { Leaves (typed_where (λ p. is_some (global_named p.globals decl.now.name.text)) (with_scope (λ unit. declared_type unit base.now decl.now)) state.old) result state.new }
 {
-    let stands = find_global(state.globals.as_slice(), decl.name.text.as_slice()).is_some();
+    let stands = find_global(&state.globals, decl.name.text.as_slice()).is_some();
     match scoped_type(base, decl, state) {
         Ok(ty) => Ok(ty),
         Err(r) => Err(with_standing(stands, r)),
@@ -91,7 +92,7 @@ fn declare(
 fn is_defined(state: &Progress, name: &[u8]) -> bool
     ensures { result ≡ has_global_body (found_global state.now (global_named state.now.globals name.now)) }
 {
-    let Some(place) = find_global(state.globals.as_slice(), name) else {
+    let Some(place) = find_global(&state.globals, name) else {
         return false;
     };
     match state.globals.get(place) {
@@ -154,7 +155,13 @@ fn define_one(
     ensures { Leaves (visit_global unit base.now decl.now state.old) result state.new }
 {
     let (place, ty) = declare_new(alloc, base, &decl.decl, state)?;
-    let init = optional_constant(alloc, &state.scope, &state.tables.types, &decl.init, ty)?;
+    let init = optional_constant(
+        alloc,
+        &state.scope,
+        state.tables.types.as_types(),
+        &decl.init,
+        ty,
+    )?;
     let init = Boxed::new(alloc, init)?;
     define(alloc, unit, place, init, state)?;
     Ok(())

@@ -275,7 +275,7 @@ fn keeps_variadic(types: &Types, place: u32) -> bool
 pub fn check_variadic_type(at: u32, place: u32, tables: &Tables) -> Result<(), Refusal>
     ensures { Leaves (check_variadic at place tables.now) result tables.now }
 {
-    if !keeps_variadic(&tables.types, place) {
+    if !keeps_variadic(tables.types.as_types(), place) {
         return Err(refusal(TypeKind::Variadic, at));
     }
     Ok(())

@@ -6,30 +6,31 @@ ghost use Rattle.check_decls.specs.Steps.{unless, refused_standing};
 
 use c_program::{AdjustDef, FunDef, GlobalDef};
 use c_tree::Name;
-use c_typing::{Meaning, Progress, Refusal, TypeKind, UnitName, UnitScope};
+use c_typing::{ByName, Meaning, Progress, Refusal, TypeKind, UnitName, UnitScope};
 use check_types::{find_meaning, find_service, is_import_slot_name, refusal};
 use hx_words::Items;
+use named_rows::NamedRows;
 use std::alloc::{AllocError, Global};
 
-/// The place of the global of this name.
-pub fn find_global(globals: &[GlobalDef], name: &[u8]) -> Option<usize>
+/// The place of the global of this name. It takes no memory.
+pub fn find_global(globals: &NamedRows<GlobalDef, ByName>, name: &[u8]) -> Option<usize>
     ensures { result ≡ global_named globals.now name.now }
 {
-    globals.iter().position(|g| g.name.as_slice() == name)
+    globals.find(name)
 }
 
-/// The place of the function of this name.
-pub fn find_function(functions: &[FunDef], name: &[u8]) -> Option<usize>
+/// The place of the function of this name. It takes no memory.
+pub fn find_function(functions: &NamedRows<FunDef, ByName>, name: &[u8]) -> Option<usize>
     ensures { result ≡ function_named functions.now name.now }
 {
-    functions.iter().position(|f| f.name.as_slice() == name)
+    functions.find(name)
 }
 
-/// The place of the adjustor of this name.
-pub fn find_adjustor(adjustors: &[AdjustDef], name: &[u8]) -> Option<usize>
+/// The place of the adjustor of this name. It takes no memory.
+pub fn find_adjustor(adjustors: &NamedRows<AdjustDef, ByName>, name: &[u8]) -> Option<usize>
     ensures { result ≡ adjustor_named adjustors.now name.now }
 {
-    adjustors.iter().position(|a| a.name.as_slice() == name)
+    adjustors.find(name)
 }
 
 fn is_type_name(unit: &UnitScope, name: &[u8]) -> bool
@@ -55,8 +56,8 @@ pub fn is_no_global(state: &Progress, name: &[u8]) -> bool
     ensures { result ≡ no_global state.now name.now }
 {
     is_reserved_name(&state.scope, name)
-        || find_function(state.functions.as_slice(), name).is_some()
-        || find_adjustor(state.adjustors.as_slice(), name).is_some()
+        || find_function(&state.functions, name).is_some()
+        || find_adjustor(&state.adjustors, name).is_some()
 }
 
 /// A name that no function can have.
@@ -65,8 +66,8 @@ pub fn is_no_function(state: &Progress, name: &[u8]) -> bool
     ensures { result ≡ no_function state.now name.now }
 {
     is_reserved_name(&state.scope, name)
-        || find_global(state.globals.as_slice(), name).is_some()
-        || find_adjustor(state.adjustors.as_slice(), name).is_some()
+        || find_global(&state.globals, name).is_some()
+        || find_adjustor(&state.adjustors, name).is_some()
 }
 
 /// A name that no adjustor can have.
@@ -75,9 +76,9 @@ pub fn is_no_adjustor(state: &Progress, name: &[u8]) -> bool
     ensures { result ≡ no_adjustor state.now name.now }
 {
     is_reserved_name(&state.scope, name)
-        || find_global(state.globals.as_slice(), name).is_some()
-        || find_function(state.functions.as_slice(), name).is_some()
-        || find_adjustor(state.adjustors.as_slice(), name).is_some()
+        || find_global(&state.globals, name).is_some()
+        || find_function(&state.functions, name).is_some()
+        || find_adjustor(&state.adjustors, name).is_some()
 }
 
 /// A name that no typedef can have.

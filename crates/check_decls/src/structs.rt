@@ -1,18 +1,21 @@
-ghost use Rattle.std.specs.Prelude.{◌≡◌, [], OnOk, IfOk, slice_get, slice_set};
+ghost use Rattle.std.specs.Prelude.{◌≡◌, [], OnOk, IfOk, slice_get};
 ghost use Rattle.c_types.specs.Layout.{extent_of};
 ghost use Rattle.c_typing.specs.Visits.{Leaves, Tells};
 ghost use Rattle.c_typing.specs.TypeForms.{most_bytes, is_within, place_in, grown};
 ghost use Rattle.c_typing.specs.Structs.{is_field, visit_field, visit_field_decls, visit_fields, struct_named, unknown_struct, begin_struct, same_fields, completed, is_complete, with_fields, end_struct, visit_struct};
 ghost use Rattle.c_typing.specs.UnitVisits.{with_scope};
 ghost use Rattle.c_typing.specs.Scopes.{tag_in};
-ghost use Rattle.check_decls.specs.Steps.{completed_at, compared_fields};
+ghost use Rattle.named_rows.specs.Places.{AreDistinct};
+ghost use Rattle.check_decls.specs.Steps.{tag_name, completed_at, compared_fields};
 
 use c_tree::{Base, Decl, Field, Name};
 use c_types::{FieldDef, StructDef, Ty, Types, layout};
-use c_typing::{Progress, Refusal, Tables, TypeKind, UnitScope, UnitTag};
+use c_typing::{ByName, Progress, Refusal, Tables, TypeKind, UnitScope, UnitTag};
 use check_types::{MOST_BYTES, declared_type_of, find_tag, is_same_type, refusal, small_place};
 use hx_words::Items;
+use named_rows::NamedRows;
 use std::alloc::{AllocError, Global};
+use type_table::TypeTable;
 
 fn has_field(fields: &[FieldDef], name: &[u8]) -> bool
     ensures { result ≡ is_field fields.now name.now }
@@ -79,12 +82,6 @@ fn struct_fields(
     Ok(fields)
 }
 
-fn find_struct(structs: &[StructDef], name: &[u8]) -> Option<usize>
-    ensures { result ≡ struct_named structs.now name.now }
-{
-    structs.iter().position(|s| s.tag.as_slice() == name)
-}
-
 fn new_struct(alloc: Global, name: &[u8]) -> Result<StructDef, AllocError>
     ensures { IfOk result (λ s. s ≡ unknown_struct name.now) }
 {
@@ -96,15 +93,15 @@ fn new_struct(alloc: Global, name: &[u8]) -> Result<StructDef, AllocError>
 }
 
 /// The place of the struct of this tag, which gets the next one where there is none yet.
-fn enter_struct(alloc: Global, name: &[u8], structs: &mut Items<StructDef>) -> Result<u32, Refusal>
-    ensures place { Tells (Ok (place_in structs.old (struct_named structs.old name.now))) result }
-    ensures grown { OnOk result (structs.new ≡ grown structs.old (unknown_struct name.now) (struct_named structs.old name.now)) }
+fn enter_struct(alloc: Global, name: &[u8], types: &mut TypeTable) -> Result<u32, Refusal>
+    ensures place { Tells (Ok (place_in types.old.structs (struct_named types.old.structs name.now))) result }
+    ensures grown { OnOk result (types.new ≡ record types.old { structs = grown types.old.structs (unknown_struct name.now) (struct_named types.old.structs name.now) }) }
 {
-    match find_struct(structs.as_slice(), name) {
+    match types.find_struct(name) {
         Some(place) => Ok(small_place(place)?),
         None => {
-            let place = small_place(structs.len())?;
-            structs.push(new_struct(alloc, name)?)?;
+            let place = small_place(types.as_types().structs.len())?;
+            types.push_struct(new_struct(alloc, name)?)?;
             Ok(place)
         }
     }
@@ -118,7 +115,7 @@ fn begin(alloc: Global, name: &[u8], state: &mut Progress) -> Result<u32, Refusa
     if let Some(tag) = find_tag(&state.scope, name) {
         return Ok(tag.place);
     }
-    let place = enter_struct(alloc, name, &mut state.tables.types.structs)?;
+    let place = enter_struct(alloc, name, &mut state.tables.types)?;
     let tag = UnitTag {
         name: Items::from_slice(alloc, name)?,
         place,
@@ -150,7 +147,7 @@ fn complete_at(
     alloc: Global,
     name: &[u8],
     at: usize,
-    tags: &mut Items<UnitTag>,
+    tags: &mut NamedRows<UnitTag, ByName>,
 ) -> Result<(), AllocError>
     ensures { OnOk result (tags.new ≡ completed_at name.now at tags.old) }
 {
@@ -161,7 +158,7 @@ fn complete_at(
         return Ok(());
     }
     let tag = UnitTag {
-        name: Items::from_slice(alloc, name)?,
+        name: Items::from_slice(alloc, tag.name.as_slice())?,
         place: tag.place,
         complete: true,
     };
@@ -169,8 +166,13 @@ fn complete_at(
     Ok(())
 }
 
+/// Each tag of this name complete, by a walk.
 #[tactic(auto, using(crate::proofs::FieldLaws::one_completed, crate::proofs::FieldLaws::all_completed))]
-fn complete_tags(alloc: Global, name: &[u8], tags: &mut Items<UnitTag>) -> Result<(), AllocError>
+fn complete_each(
+    alloc: Global,
+    name: &[u8],
+    tags: &mut NamedRows<UnitTag, ByName>,
+) -> Result<(), AllocError>
     ensures { OnOk result (tags.new ≡ completed tags.old name.now) }
 {
     for at in 0..tags.len() {
@@ -179,12 +181,36 @@ fn complete_tags(alloc: Global, name: &[u8], tags: &mut Items<UnitTag>) -> Resul
     Ok(())
 }
 
-fn put_struct(structs: &mut Items<StructDef>, place: u32, definition: StructDef)
-    ensures { structs.new ≡ slice_set structs.old place definition }
+/// The tag of this name complete, where each name stands once.
+#[tactic(auto, using(crate::proofs::TagLaws::one_tag, crate::proofs::TagLaws::no_tag))]
+fn complete_only(
+    alloc: Global,
+    name: &[u8],
+    tags: &mut NamedRows<UnitTag, ByName>,
+) -> Result<(), AllocError>
+    requires { AreDistinct tag_name tags.old }
+    ensures { OnOk result (tags.new ≡ completed tags.old name.now) }
 {
-    if (place as usize) < structs.len() {
-        structs.set(place as usize, definition);
+    match tags.find(name) {
+        Some(at) => {
+            complete_at(alloc, name, at, tags)?;
+            Ok(())
+        }
+        None => Ok(()),
     }
+}
+
+fn complete_tags(
+    alloc: Global,
+    name: &[u8],
+    tags: &mut NamedRows<UnitTag, ByName>,
+) -> Result<(), AllocError>
+    ensures { OnOk result (tags.new ≡ completed tags.old name.now) }
+{
+    if tags.are_distinct() {
+        return complete_only(alloc, name, tags);
+    }
+    complete_each(alloc, name, tags)
 }
 
 fn is_small(types: &Types, place: u32) -> bool
@@ -212,8 +238,8 @@ fn give_fields(
         fields,
         complete: true,
     };
-    put_struct(&mut state.tables.types.structs, place, definition);
-    if !is_small(&state.tables.types, place) {
+    state.tables.types.set_struct(place as usize, definition);
+    if !is_small(state.tables.types.as_types(), place) {
         return Err(refusal(TypeKind::BadType, at));
     }
     complete_tags(alloc, name, &mut state.scope.tags)?;
@@ -246,7 +272,7 @@ fn end(
         return Err(refusal(TypeKind::Redeclared, at));
     }
     match compare_fields(
-        state.tables.types.structs.as_slice(),
+        state.tables.types.as_types().structs.as_slice(),
         place,
         fields.as_slice(),
     ) {

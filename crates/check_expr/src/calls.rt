@@ -35,7 +35,7 @@ fn call_by_name(
 ) -> Result<Operand, Refusal>
     ensures { Leaves (called_by_name at ty function values tables.old) result tables.new }
 {
-    let passed = pass_to(alloc, at, ty, values, &tables.types)?;
+    let passed = pass_to(alloc, at, ty, values, tables.types.as_types())?;
     note_extras(passed.extras, tables)?;
     let tree = TypedExpr::Call(passed.result, function, passed.arguments);
     let tree = Boxed::new(alloc, tree)?;
@@ -54,7 +54,7 @@ fn call_through(
 ) -> Result<Operand, Refusal>
     ensures { Leaves (call_at at ty values (λ es result. TypedExpr.CallPointer result ty pointer es) tables.old) result tables.new }
 {
-    let passed = pass_to(alloc, at, ty, values, &tables.types)?;
+    let passed = pass_to(alloc, at, ty, values, tables.types.as_types())?;
     note_extras(passed.extras, tables)?;
     let tree = TypedExpr::CallPointer(passed.result, ty, pointer, passed.arguments);
     let tree = Boxed::new(alloc, tree)?;

@@ -92,7 +92,7 @@ pub fn visit_expr(
         Expr::Index(whole, at, index) => {
             let operand = visit_expr(alloc, unit, locals, whole.get(), tables)?;
             let index = visit_value(alloc, unit, locals, index.get(), tables)?;
-            subscript(alloc, at.start, operand, index, &tables.types)
+            subscript(alloc, at.start, operand, index, tables.types.as_types())
         }
         Expr::Select(whole, selector, at, name) => {
             let operand = visit_expr(alloc, unit, locals, whole.get(), tables)?;

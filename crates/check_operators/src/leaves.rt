@@ -59,7 +59,7 @@ pub fn operand_of_size(
     ensures { Leaves (sized unit.now at ty.now tables.old) result tables.new }
 {
     let object = object_type_of(unit, at, &ty.base, ty.stars.as_slice(), tables)?;
-    let bytes = size(&tables.types, object);
+    let bytes = size(tables.types.as_types(), object);
     let tree = Boxed::new(alloc, TypedExpr::Number(IntTy::U64, bytes))?;
     Ok(given_operand(at, Ty::Int(IntTy::U64), tree))
 }

@@ -155,8 +155,14 @@ pub fn select(
     ensures { Leaves (selected selector at name.now operand tables.now) result tables.now }
 {
     match selector {
-        Selector::Dot => dot(alloc, at, operand, name, &tables.types),
-        Selector::Arrow => follow_to(alloc, at, value_of(alloc, operand)?, name, &tables.types),
+        Selector::Dot => dot(alloc, at, operand, name, tables.types.as_types()),
+        Selector::Arrow => follow_to(
+            alloc,
+            at,
+            value_of(alloc, operand)?,
+            name,
+            tables.types.as_types(),
+        ),
     }
 }
 

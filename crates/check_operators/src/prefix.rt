@@ -210,7 +210,12 @@ pub fn apply_prefix(
         UnaryOp::Complement => complement(alloc, at, value_of(alloc, operand)?),
         UnaryOp::Not => deny(alloc, at, value_of(alloc, operand)?),
         UnaryOp::Address => address(alloc, at, operand, tables),
-        UnaryOp::Indirect => follow(alloc, at, value_of(alloc, operand)?, &tables.types),
+        UnaryOp::Indirect => follow(
+            alloc,
+            at,
+            value_of(alloc, operand)?,
+            tables.types.as_types(),
+        ),
     }
 }
 

@@ -16,6 +16,7 @@ use c_typing::{Enclosing, LocalScope, Refusal, Tables, UnitScope, Value};
 use check_expr::visit_value;
 use check_types::scalar_of;
 use hx_words::{Boxed, Items};
+use named_rows::NamedRows;
 use std::alloc::{AllocError, Global};
 use std::mem;
 
@@ -23,7 +24,7 @@ use std::mem;
 fn enter_block(alloc: Global, locals: &mut LocalScope) -> Result<(), AllocError>
     ensures { OnOk result (locals.new ≡ inside locals.old) }
 {
-    let own = mem::replace(&mut locals.own, Items::new(alloc));
+    let own = mem::replace(&mut locals.own, NamedRows::new(alloc));
     locals.outer.push(own)?;
     Ok(())
 }

@@ -237,7 +237,7 @@ fn is_large(types: &Types, length: u64, ty: Ty) -> bool
 fn array_of(at: u32, length: u64, ty: Ty, tables: &mut Tables) -> Result<Ty, Refusal>
     ensures { Leaves (array_type at length ty tables.old) result tables.new }
 {
-    if length == 0 || is_large(&tables.types, length, ty) {
+    if length == 0 || is_large(tables.types.as_types(), length, ty) {
         return Err(refusal(TypeKind::BadType, at));
     }
     let place = enter_ty(ty, tables)?;

@@ -6,65 +6,45 @@ ghost use Rattle.c_typing.specs.TypeForms.{field_from, field_of};
 use c_program::{Place, Service, Target};
 use c_types::{FieldDef, Ty, Types};
 use c_typing::{
-    Designated, LocalMeaning, LocalName, LocalScope, Meaning, UnitName, UnitScope, UnitTag,
+    ByName, Designated, LocalMeaning, LocalName, LocalScope, Meaning, UnitScope, UnitTag,
 };
-use hx_words::{Boxed, Items};
+use hx_words::Boxed;
+use named_rows::NamedRows;
 use std::alloc::{AllocError, Global};
-
-fn first_meaning(names: &[UnitName], name: &[u8]) -> Option<Meaning>
-    ensures { result ≡ meaning_in names.now name.now }
-{
-    for n in names {
-        if n.name.as_slice() == name {
-            return Some(n.meaning);
-        }
-    }
-    None
-}
 
 /// What a name that a unit has declared means. It takes no memory.
 pub fn find_meaning(unit: &UnitScope, name: &[u8]) -> Option<Meaning>
     ensures { result ≡ meaning_in unit.now.names name.now }
 {
-    first_meaning(unit.names.as_slice(), name)
-}
-
-fn first_tag<'a>(tags: &'a [UnitTag], name: &[u8]) -> Option<&'a UnitTag>
-    ensures { option_copied result ≡ tag_in tags.now name.now }
-{
-    for t in tags {
-        if t.name.as_slice() == name {
-            return Some(t);
-        }
+    match unit.names.find_row(name) {
+        Some(n) => Some(n.meaning),
+        None => None,
     }
-    None
 }
 
 /// A tag that a unit has declared. It takes no memory.
 pub fn find_tag<'a>(unit: &'a UnitScope, name: &[u8]) -> Option<&'a UnitTag>
     ensures { option_copied result ≡ tag_in unit.now.tags name.now }
 {
-    first_tag(unit.tags.as_slice(), name)
+    unit.tags.find_row(name)
 }
 
-fn first_local(names: &[LocalName], name: &[u8]) -> Option<LocalMeaning>
-    ensures { result ≡ in_block names.now name.now }
+fn first_local(block: &NamedRows<LocalName, ByName>, name: &[u8]) -> Option<LocalMeaning>
+    ensures { result ≡ in_block block.now name.now }
 {
-    for n in names {
-        if n.name.as_slice() == name {
-            return Some(n.meaning);
-        }
+    match block.find_row(name) {
+        Some(n) => Some(n.meaning),
+        None => None,
     }
-    None
 }
 
 /// In blocks of which the last is the innermost.
-fn innermost(blocks: &[Items<LocalName>], name: &[u8]) -> Option<LocalMeaning>
+fn innermost(blocks: &[NamedRows<LocalName, ByName>], name: &[u8]) -> Option<LocalMeaning>
     ensures { result ≡ in_blocks blocks.now name.now }
 {
     let mut found = None;
     for block in blocks {
-        found = first_local(block.as_slice(), name).or(found);
+        found = first_local(block, name).or(found);
     }
     found
 }
@@ -73,7 +53,7 @@ fn innermost(blocks: &[Items<LocalName>], name: &[u8]) -> Option<LocalMeaning>
 pub fn find_own(locals: &LocalScope, name: &[u8]) -> Option<LocalMeaning>
     ensures { result ≡ in_block locals.now.own name.now }
 {
-    first_local(locals.own.as_slice(), name)
+    first_local(&locals.own, name)
 }
 
 /// What a name of a block or of one around it means (C11, 6.2.1). It takes no memory.

@@ -1,11 +1,12 @@
-ghost use Rattle.std.specs.Prelude.{◌≡◌, position};
+ghost use Rattle.std.specs.Prelude.{◌≡◌, position, IfOk};
 ghost use Rattle.c_typing.specs.Visits.{Leaves};
-ghost use Rattle.c_typing.specs.TypeForms.{same_type, same_function, ty_at, enter_type, enter_function, fields_at};
+ghost use Rattle.c_typing.specs.TypeForms.{same_type, same_function, ty_at, enter_type, enter_function};
 
 use crate::refusals::small_place;
-use crate::same::{is_same_function, is_same_type};
-use c_types::{FieldDef, FunTy, Ty, Types};
+use c_types::{FunTy, Ty, Types};
 use c_typing::{Refusal, Tables};
+use std::alloc::AllocError;
+use type_table::TypeTable;
 
 /// The type at a place of a table, and void where none is there. It takes no memory.
 pub fn type_at(types: &Types, place: u32) -> Ty
@@ -17,17 +18,16 @@ pub fn type_at(types: &Types, place: u32) -> Ty
     }
 }
 
-fn place_of_type(tys: &[Ty], ty: Ty) -> Option<usize>
-    ensures { result ≡ position (same_type ty) tys.now }
+fn place_of_type(types: &TypeTable, ty: Ty) -> Option<usize>
+    ensures { result ≡ position (same_type ty) types.now.tys }
 {
-    tys.iter().position(|other| is_same_type(ty, *other))
+    types.find_ty(ty)
 }
 
-fn place_of_function(funs: &[FunTy], function: &FunTy) -> Option<usize>
-    ensures { result ≡ position (same_function function.now) funs.now }
+fn place_of_function(types: &TypeTable, function: &FunTy) -> Result<Option<usize>, AllocError>
+    ensures { IfOk result (λ place. place ≡ position (same_function function.now) types.now.funs) }
 {
-    funs.iter()
-        .position(|other| is_same_function(function, other))
+    types.find_fun(function)
 }
 
 /// The place of the type of a pointer's target or an array's element, which is entered at the table's
@@ -40,11 +40,11 @@ fn place_of_function(funs: &[FunTy], function: &FunTy) -> Option<usize>
 pub fn enter_ty(ty: Ty, tables: &mut Tables) -> Result<u32, Refusal>
     ensures { Leaves (enter_type ty tables.old) result tables.new }
 {
-    match place_of_type(tables.types.tys.as_slice(), ty) {
+    match place_of_type(&tables.types, ty) {
         Some(place) => small_place(place),
         None => {
-            let place = small_place(tables.types.tys.len())?;
-            tables.types.tys.push(ty)?;
+            let place = small_place(tables.types.as_types().tys.len())?;
+            tables.types.push_ty(ty)?;
             Ok(place)
         }
     }
@@ -59,11 +59,11 @@ pub fn enter_ty(ty: Ty, tables: &mut Tables) -> Result<u32, Refusal>
 pub fn enter_fun_type(function: FunTy, tables: &mut Tables) -> Result<u32, Refusal>
     ensures { Leaves (enter_function function tables.old) result tables.new }
 {
-    match place_of_function(tables.types.funs.as_slice(), &function) {
+    match place_of_function(&tables.types, &function)? {
         Some(place) => small_place(place),
         None => {
-            let place = small_place(tables.types.funs.len())?;
-            tables.types.funs.push(function)?;
+            let place = small_place(tables.types.as_types().funs.len())?;
+            tables.types.push_fun(function)?;
             Ok(place)
         }
     }
