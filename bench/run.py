@@ -3,8 +3,8 @@
 
   bench/run.py PROGRAM       the built program, as crates/ec_cli/out/ec_cli
 
-Each loop takes 2 steps a turn. Prints the best of five runs of two million and of four million turns, their ratio (2 at most
-for linear work), steps per second, and the ratio of the x64 loop in an image of 94 sections to the one in four.
+Each loop takes 2 steps a turn. Prints for each side the best of five runs of two million and of four million turns, their
+ratio (2 at most for linear work), steps per second, and the ratio of the loop in an image of 94 sections to the one in four.
 """
 import os
 import subprocess

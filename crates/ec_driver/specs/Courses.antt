@@ -1,8 +1,9 @@
 -- What a command comes to before it saves anything, by its words and the files alone: this project's own.
 -- Refusals are looked for in one order, and the first is told. First the words must be a command, and then
 -- one that is built yet. `run` asks for an image that can be loaded at its base (`image_run`). For the others the
--- units must be a program within the limits (`ec_units`). `check` asks no more. For `exec` the marking must name definitions alone; and then, as long as no compiler stands behind
--- the checker, there must be one unit, all definitions x64, and the base 0x140000000.
+-- units must be a program within the limits (`ec_units`). `check` asks no more. For `exec` the marking must name
+-- definitions alone; and then, as long as no compiler stands behind the checker, there must be one unit, all
+-- definitions x64, and the base 0x140000000.
 use Rattle.std.specs.Prelude.{ℕ, Bool, true, false, ◌&&◌, ◌==◌, List, [], ◌∷◌, Option, Some, None}
 use Rattle.std.specs.List.{list_all}
 use Rattle.hx_io.specs.Files.{Files}
