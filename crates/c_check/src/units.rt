@@ -10,16 +10,16 @@ use c_program::Program;
 use c_tree::Unit;
 use c_typing::{Progress, Refusal, Tables, UnitScope};
 use hx_words::Items;
+use measured_types::MeasuredTypes;
 use named_rows::NamedRows;
 use std::alloc::Global;
-use type_table::TypeTable;
 
 /// A program before its first unit.
 fn start(alloc: Global) -> Progress
     ensures { result ≡ nothing_yet }
 {
     let tables = Tables {
-        types: TypeTable::new(alloc),
+        types: MeasuredTypes::new(alloc),
         locals: Items::new(alloc),
         has_list: false,
         extras: 0,

@@ -11,13 +11,13 @@ use c_typing::{
 };
 use check_stmt::type_items;
 use hx_words::Items;
+use measured_types::MeasuredTypes;
 use named_rows::NamedRows;
 use printing::show_items;
 use std::alloc::{AllocError, Global};
 use std::fmt::Write;
 use std::process::Abort;
 use std::test::Fail;
-use type_table::TypeTable;
 
 const INT: Ty = Ty::Int(IntTy::I32);
 
@@ -107,7 +107,7 @@ fn parameters(alloc: Global) -> Result<LocalScope, AllocError> {
 fn tables(alloc: Global) -> Result<Tables, AllocError> {
     let locals = Items::from_slice(alloc, &[INT])?;
     Ok(Tables {
-        types: TypeTable::new(alloc),
+        types: MeasuredTypes::new(alloc),
         locals,
         has_list: false,
         extras: 0,

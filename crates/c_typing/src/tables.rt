@@ -2,14 +2,14 @@ use crate::scopes::{ByName, UnitScope};
 use c_program::{AdjustDef, FunDef, GlobalDef};
 use c_types::Ty;
 use hx_words::Items;
+use measured_types::MeasuredTypes;
 use named_rows::{Named, NamedRows};
-use type_table::TypeTable;
 
 /// What the parts of a body enter something into: the program's types, the types of the function's
 /// locals so far, whether it has its `va_list`, and the most extra arguments of a call so far.
 #[derive(Drop)]
 pub struct Tables {
-    pub types: TypeTable,
+    pub types: MeasuredTypes,
     pub locals: Items<Ty>,
     pub has_list: bool,
     pub extras: u32,

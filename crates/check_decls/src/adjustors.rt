@@ -9,10 +9,11 @@ use crate::heads::is_word_result;
 use crate::names::{check_untaken, declare_name, is_no_adjustor};
 use c_program::{AdjustDef, Target};
 use c_tree::{Literal, Name};
-use c_types::{FunTy, Span, Ty, Types};
+use c_types::{FunTy, Span, Ty};
 use c_typing::{Meaning, Progress, Refusal, TypeKind, UnitScope};
 use check_types::{as_integer, find_meaning, find_service, refusal, small_place};
 use hx_words::Items;
+use measured_types::MeasuredTypes;
 use std::alloc::Global;
 
 fn target_of(at: u32, meaning: Option<Meaning>) -> Result<(Target, u32), Refusal>
@@ -49,7 +50,7 @@ fn is_integer_at(params: &[Ty], n: u64) -> bool
 }
 
 /// The parameters of a function whose slots are registers on x64.
-fn register_count(types: &Types, f: &FunTy) -> u64
+fn register_count(types: &MeasuredTypes, f: &FunTy) -> u64
     ensures { result ≡ (if gives_word types.now f.now.result then 4 else 3) }
 {
     if is_word_result(types, f.result) {
@@ -65,7 +66,7 @@ fn is_last_of_variadic(f: &FunTy, n: u64) -> bool
     f.variadic && n == (f.params.len() as u64).saturating_sub(1)
 }
 
-fn can_adjust(types: &Types, f: &FunTy, n: u64) -> bool
+fn can_adjust(types: &MeasuredTypes, f: &FunTy, n: u64) -> bool
     ensures { result ≡ is_adjustable types.now f.now n }
 {
     is_integer_at(f.params.as_slice(), n)
@@ -73,10 +74,10 @@ fn can_adjust(types: &Types, f: &FunTy, n: u64) -> bool
         && !is_last_of_variadic(f, n)
 }
 
-fn can_adjust_at(types: &Types, ty: u32, n: u64) -> bool
+fn can_adjust_at(types: &MeasuredTypes, ty: u32, n: u64) -> bool
     ensures { result ≡ adjusts types.now (slice_get types.now.funs ty) n }
 {
-    match types.funs.get(ty as usize) {
+    match types.as_types().funs.get(ty as usize) {
         Some(f) => can_adjust(types, f, n),
         None => false,
     }
@@ -96,7 +97,7 @@ fn amount(minus: Option<Span>, n: u64) -> Option<i32>
 /// The parameter, from 0, and the number to add.
 fn adjustment(
     at: u32,
-    types: &Types,
+    types: &MeasuredTypes,
     ty: u32,
     parameter: &Literal,
     minus: Option<Span>,
@@ -178,7 +179,7 @@ pub fn define_adjustment(
     let target = find_target(at, &state.scope, target.text.as_slice())?;
     let adjustment = adjustment(
         at,
-        state.tables.types.as_types(),
+        &state.tables.types,
         target.1,
         parameter,
         minus,

@@ -7,13 +7,14 @@ ghost use Rattle.c_typing.specs.Heads.{base_at, param_at, param_type, is_service
 ghost use Rattle.check_decls.specs.Steps.{LeavesOne, LeavesAll};
 
 use c_tree::{Base, FunctionHead, Name, Param};
-use c_types::{FunTy, IntTy, Ty, Types, size};
+use c_types::{FunTy, IntTy, Ty};
 use c_typing::{LocalMeaning, LocalName, LocalScope, Refusal, Tables, TypeKind, UnitScope};
 use check_types::{
     enter_fun_type, find_service, is_name_taken, is_same_type, object_type_of, refusal,
     result_type_of, small_place,
 };
 use hx_words::Items;
+use measured_types::MeasuredTypes;
 use std::alloc::{AllocError, Global};
 
 fn base_start(base: &Base) -> u32
@@ -237,11 +238,11 @@ fn is_word_size(size: u64) -> bool
 }
 
 /// Whether a result comes back in a register and not through memory.
-pub fn is_word_result(types: &Types, ty: Ty) -> bool
+pub fn is_word_result(types: &MeasuredTypes, ty: Ty) -> bool
     ensures { result ≡ gives_word types.now ty }
 {
     match ty {
-        Ty::Struct(_) => is_word_size(size(types, ty)),
+        Ty::Struct(_) => is_word_size(types.size(ty)),
         _ => true,
     }
 }
@@ -255,10 +256,10 @@ fn has_last_int(params: &[Ty]) -> bool
     }
 }
 
-fn keeps_variadic(types: &Types, place: u32) -> bool
+fn keeps_variadic(types: &MeasuredTypes, place: u32) -> bool
     ensures { result ≡ variadic_fits types.now (slice_get types.now.funs place) }
 {
-    match types.funs.get(place as usize) {
+    match types.as_types().funs.get(place as usize) {
         Some(f) if f.variadic => {
             has_last_int(f.params.as_slice()) && is_word_result(types, f.result)
         }
@@ -275,7 +276,7 @@ fn keeps_variadic(types: &Types, place: u32) -> bool
 pub fn check_variadic_type(at: u32, place: u32, tables: &Tables) -> Result<(), Refusal>
     ensures { Leaves (check_variadic at place tables.now) result tables.now }
 {
-    if !keeps_variadic(tables.types.as_types(), place) {
+    if !keeps_variadic(&tables.types, place) {
         return Err(refusal(TypeKind::Variadic, at));
     }
     Ok(())

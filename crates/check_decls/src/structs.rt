@@ -9,13 +9,13 @@ ghost use Rattle.named_rows.specs.Places.{AreDistinct};
 ghost use Rattle.check_decls.specs.Steps.{tag_name, completed_at, compared_fields};
 
 use c_tree::{Base, Decl, Field, Name};
-use c_types::{FieldDef, StructDef, Ty, Types, layout};
+use c_types::{FieldDef, StructDef, Ty};
 use c_typing::{ByName, Progress, Refusal, Tables, TypeKind, UnitScope, UnitTag};
 use check_types::{MOST_BYTES, declared_type_of, find_tag, is_same_type, refusal, small_place};
 use hx_words::Items;
+use measured_types::MeasuredTypes;
 use named_rows::NamedRows;
 use std::alloc::{AllocError, Global};
-use type_table::TypeTable;
 
 fn has_field(fields: &[FieldDef], name: &[u8]) -> bool
     ensures { result ≡ is_field fields.now name.now }
@@ -93,7 +93,7 @@ fn new_struct(alloc: Global, name: &[u8]) -> Result<StructDef, AllocError>
 }
 
 /// The place of the struct of this tag, which gets the next one where there is none yet.
-fn enter_struct(alloc: Global, name: &[u8], types: &mut TypeTable) -> Result<u32, Refusal>
+fn enter_struct(alloc: Global, name: &[u8], types: &mut MeasuredTypes) -> Result<u32, Refusal>
     ensures place { Tells (Ok (place_in types.old.structs (struct_named types.old.structs name.now))) result }
     ensures grown { OnOk result (types.new ≡ record types.old { structs = grown types.old.structs (unknown_struct name.now) (struct_named types.old.structs name.now) }) }
 {
@@ -213,10 +213,10 @@ fn complete_tags(
     complete_each(alloc, name, tags)
 }
 
-fn is_small(types: &Types, place: u32) -> bool
+fn is_small(types: &MeasuredTypes, place: u32) -> bool
     ensures { result ≡ is_within most_bytes (extent_of types.now (Ty.Struct place)) }
 {
-    match layout(types, Ty::Struct(place)) {
+    match types.layout(Ty::Struct(place)) {
         Some(extent) => extent.size <= MOST_BYTES,
         None => false,
     }
@@ -239,7 +239,7 @@ fn give_fields(
         complete: true,
     };
     state.tables.types.set_struct(place as usize, definition);
-    if !is_small(state.tables.types.as_types(), place) {
+    if !is_small(&state.tables.types, place) {
         return Err(refusal(TypeKind::BadType, at));
     }
     complete_tags(alloc, name, &mut state.scope.tags)?;

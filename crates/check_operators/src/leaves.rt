@@ -5,7 +5,7 @@ ghost use Rattle.c_typing.specs.Expressions.{given_int, name_of, number_of, size
 use crate::parts::{INT, given_operand};
 use c_program::TypedExpr;
 use c_tree::{Literal, Name, TypeName};
-use c_types::{IntTy, Ty, size};
+use c_types::{IntTy, Ty};
 use c_typing::{Designated, LocalScope, Operand, Refusal, Tables, TypeKind, UnitScope, Value};
 use check_types::{as_integer, designated_name, object_type_of, refusal};
 use hx_words::Boxed;
@@ -59,7 +59,7 @@ pub fn operand_of_size(
     ensures { Leaves (sized unit.now at ty.now tables.old) result tables.new }
 {
     let object = object_type_of(unit, at, &ty.base, ty.stars.as_slice(), tables)?;
-    let bytes = size(tables.types.as_types(), object);
+    let bytes = tables.types.size(object);
     let tree = Boxed::new(alloc, TypedExpr::Number(IntTy::U64, bytes))?;
     Ok(given_operand(at, Ty::Int(IntTy::U64), tree))
 }

@@ -10,7 +10,7 @@ use crate::refusals::refusal;
 use crate::scopes::{find_meaning, find_tag};
 use crate::tables::enter_ty;
 use c_tree::{Base, Decl, Literal, Span, TypeName};
-use c_types::{IntTy, Ty, Types, size};
+use c_types::{IntTy, Ty};
 use c_typing::{Meaning, Refusal, Tables, TypeKind, UnitScope};
 
 /// A type as it is written, and whether it is complete (C11, 6.2.5p22).
@@ -223,10 +223,10 @@ pub fn object_type_of(
     complete_object(at, formed)
 }
 
-fn is_large(types: &Types, length: u64, ty: Ty) -> bool
+fn is_large(types: &MeasuredTypes, length: u64, ty: Ty) -> bool
     ensures { result ≡ nat_lt most_bytes (length * size_of types.now ty) }
 {
-    match length.checked_mul(size(types, ty)) {
+    match length.checked_mul(types.size(ty)) {
         Some(bytes) => bytes > MOST_BYTES,
         None => true,
     }
@@ -237,7 +237,7 @@ fn is_large(types: &Types, length: u64, ty: Ty) -> bool
 fn array_of(at: u32, length: u64, ty: Ty, tables: &mut Tables) -> Result<Ty, Refusal>
     ensures { Leaves (array_type at length ty tables.old) result tables.new }
 {
-    if length == 0 || is_large(tables.types.as_types(), length, ty) {
+    if length == 0 || is_large(&tables.types, length, ty) {
         return Err(refusal(TypeKind::BadType, at));
     }
     let place = enter_ty(ty, tables)?;

@@ -5,8 +5,8 @@ ghost use Rattle.c_typing.specs.TypeForms.{same_type, same_function, ty_at, ente
 use crate::refusals::small_place;
 use c_types::{FunTy, Ty, Types};
 use c_typing::{Refusal, Tables};
+use measured_types::MeasuredTypes;
 use std::alloc::AllocError;
-use type_table::TypeTable;
 
 /// The type at a place of a table, and void where none is there. It takes no memory.
 pub fn type_at(types: &Types, place: u32) -> Ty
@@ -18,13 +18,13 @@ pub fn type_at(types: &Types, place: u32) -> Ty
     }
 }
 
-fn place_of_type(types: &TypeTable, ty: Ty) -> Option<usize>
+fn place_of_type(types: &MeasuredTypes, ty: Ty) -> Option<usize>
     ensures { result ≡ position (same_type ty) types.now.tys }
 {
     types.find_ty(ty)
 }
 
-fn place_of_function(types: &TypeTable, function: &FunTy) -> Result<Option<usize>, AllocError>
+fn place_of_function(types: &MeasuredTypes, function: &FunTy) -> Result<Option<usize>, AllocError>
     ensures { IfOk result (λ place. place ≡ position (same_function function.now) types.now.funs) }
 {
     types.find_fun(function)
