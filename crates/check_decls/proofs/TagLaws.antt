@@ -1,5 +1,5 @@
 -- Of tags that each stand once, one is completed at most.
-use Rattle.std.proofs.Common.{◌≡◌, ℕ, ◌+◌, true, false, cond, not, List, [], ◌∷◌, Some, None, position, bytes_eq, if◌then◌else◌, refl, sym, ap, subst, ◌∙◌, ⊎_elim}
+use Rattle.std.proofs.Common.{◌≡◌, ℕ, suc, ◌+◌, true, false, cond, not, List, [], ◌∷◌, Some, None, position, bytes_eq, if◌then◌else◌, refl, sym, ap, subst, ◌∙◌, ⊎_elim, arith}
 use Rattle.std.specs.List.{position_or_len}
 use Rattle.std.specs.Cmp.Lexicographic.{bytes_decides}
 use Rattle.std.proofs.lemmas.Bool.{cases_Bool}
@@ -17,6 +17,9 @@ untouched : (name : List ℕ) (ts : List UnitTag) → NoneNamed tag_name name ts
 untouched name [] h = refl
 untouched name (t ∷ ts) h = λ j. same_tag name t h.0 j ∷ untouched name ts h.1 j
 
+one_more : (n : ℕ) → 1 + n ≡ suc n
+one_more n = omega arith
+
 first_only : (name : List ℕ) (ts : List UnitTag) → AreDistinct tag_name ts → completed_at name (position_or_len (λ t. bytes_eq t.name name) ts) ts ≡ completed ts name
 first_only name [] h = refl
 first_only name (t ∷ ts) h = ⊎_elim
@@ -26,6 +29,7 @@ first_only name (t ∷ ts) h = ⊎_elim
     ∙ first-completed name t ts ∙ ap (λ (us : List UnitTag). completed_tag name t ∷ us) (sym (untouched name ts rest)))
     (λ f.
     ap (λ b. completed_at name (cond (not b) (1 + position_or_len (λ t. bytes_eq t.name name) ts) 0) (t ∷ ts)) f
+    ∙ ap (λ (i : ℕ). completed_at name i (t ∷ ts)) (one_more (position_or_len (λ t. bytes_eq t.name name) ts))
     ∙ shift name (position_or_len (λ t. bytes_eq t.name name) ts) t ts ∙ (λ j. sym (same_tag name t f) j ∷ first_only name ts h.1 j))
     (cases_Bool (bytes_eq t.name name))
 
