@@ -1,0 +1,12 @@
+//! The types that a program names, with the extents that are known of them.
+//!
+//! [`c_types::layout`] walks all the parts of a type. [`MeasuredTypes`] notes the extent of each type
+//! and of each struct as it comes, so that the layout of a type is looked up, and nothing is walked.
+//! Contracts see it as [`Types`](c_types::Types), as they see a [`TypeTable`](type_table::TypeTable).
+#![tactic(auto)]
+
+mod extents;
+mod measure;
+mod table;
+
+pub use table::MeasuredTypes;
