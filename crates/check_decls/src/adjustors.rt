@@ -177,14 +177,7 @@ pub fn define_adjustment(
     let taken = is_no_adjustor(state, name.text.as_slice());
     check_untaken(taken, name)?;
     let target = find_target(at, &state.scope, target.text.as_slice())?;
-    let adjustment = adjustment(
-        at,
-        &state.tables.types,
-        target.1,
-        parameter,
-        minus,
-        n,
-    )?;
+    let adjustment = adjustment(at, &state.tables.types, target.1, parameter, minus, n)?;
     place_adjustor(alloc, unit, name.text.as_slice(), target, adjustment, state)?;
     Ok(())
 }

@@ -12,6 +12,7 @@ use crate::tables::enter_ty;
 use c_tree::{Base, Decl, Literal, Span, TypeName};
 use c_types::{IntTy, Ty};
 use c_typing::{Meaning, Refusal, Tables, TypeKind, UnitScope};
+use measured_types::MeasuredTypes;
 
 /// A type as it is written, and whether it is complete (C11, 6.2.5p22).
 #[derive(Clone, Copy, Debug, PartialEq, Eq)]

@@ -7,6 +7,7 @@ use std::alloc::{AllocError, Global};
 use std::test::Fail;
 
 static INT: Ty = Ty::Int(IntTy::I32);
+
 static CHAR: Ty = Ty::Int(IntTy::I8);
 
 /// `tys` of the table: int, char, a pointer to int, int[3], char[5], a pointer to int[3], int[3][2].
@@ -28,7 +29,13 @@ static EXTENTS: [(Ty, Option<Extent>); 10] = [
     (Ty::Array(1, 5), Some(Extent { size: 5, align: 1 })),
     (Ty::Array(2, 4), Some(Extent { size: 32, align: 8 })),
     (Ty::Array(3, 2), Some(Extent { size: 24, align: 4 })),
-    (Ty::Array(6, 10), Some(Extent { size: 240, align: 4 })),
+    (
+        Ty::Array(6, 10),
+        Some(Extent {
+            size: 240,
+            align: 4,
+        }),
+    ),
     (Ty::Array(7, 1), None),
     (Ty::Struct(0), None),
 ];
