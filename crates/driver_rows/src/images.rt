@@ -101,7 +101,7 @@ fn first_if(fails: bool) -> &'static [u64] {
 }
 
 /// The calls that fail: the first of that object.
-fn fails(failing: Failing) -> Fails<'static> {
+fn first_fails(failing: Failing) -> Fails<'static> {
     Fails {
         store: first_if(failing == Failing::Store),
         input: first_if(failing == Failing::Input),
@@ -180,7 +180,7 @@ static ROWS: [Row; 20] = [
         27,
     ),
     (
-        "run p.c",
+        "run q.c",
         (0, 0x4D),
         Failing::Nothing,
         "",
@@ -300,7 +300,7 @@ fn images(rt: HostRuntime) -> Result<(), Fail> {
             *at = *byte;
         }
         let wanted = (*output, *note, *status);
-        runs(&rt, line, ("p.img", &file), b"Z!", &fails(*failing), wanted)?;
+        runs(&rt, line, ("p.img", &file), b"Z!", &first_fails(*failing), wanted)?;
     }
     Ok(())
 }
