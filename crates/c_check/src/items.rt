@@ -1,10 +1,10 @@
-ghost use Rattle.std.specs.Prelude.{◌≡◌};
-ghost use Rattle.c_typing.specs.Visits.{Leaves};
+ghost use Rattle.std.specs.Prelude.{◌≡◌, slice_get};
+ghost use Rattle.c_typing.specs.Visits.{Leaves, Tells};
 ghost use Rattle.c_typing.specs.Scopes.{no_locals, no_names};
 ghost use Rattle.c_typing.specs.Heads.{visit_parameters};
 ghost use Rattle.c_typing.specs.Statements.{visit_body};
 ghost use Rattle.c_typing.specs.UnitVisits.{with_scope};
-ghost use Rattle.c_typing.specs.Externals.{visit_definition};
+ghost use Rattle.c_typing.specs.Externals.{visit_definition, enclosing_in};
 ghost use Rattle.c_typing.specs.Items.{visit_item, visit_items, visit_unit};
 ghost use Rattle.c_check.specs.Bodies.{LeavesScoped, defined_behind};
 
@@ -63,6 +63,13 @@ fn scoped_body(
     Ok((block, locals))
 }
 
+/// What a body needs to know of the function whose type stands at this place.
+fn enclosing_of(state: &Progress, ty: u32) -> Result<Enclosing, Refusal>
+    ensures { Tells (Ok (enclosing_in (slice_get state.now.tables.types.funs ty))) result }
+{
+    enclosing(state.tables.types.as_types().funs.as_slice(), ty)
+}
+
 /// The body of a function that is declared, by its place and its type's.
 #[tactic(auto, unfolding(c_typing::specs::Visits::followed, c_typing::specs::Visits::looked))]
 fn define_declared(
@@ -76,7 +83,7 @@ fn define_declared(
     ensures { Leaves (defined_behind unit declared parameters items.now state.old) result state.new }
 {
     let (place, ty) = declared;
-    let f = enclosing(state.tables.types.as_types().funs.as_slice(), ty)?;
+    let f = enclosing_of(state, ty)?;
     let (block, _) = scoped_body(alloc, f, items, parameters, state)?;
     define_body(alloc, unit, place, block, state)?;
     Ok(())
