@@ -17,6 +17,11 @@ Answers rule (Ok p) = rule ≡ Ok p
 Answers rule (Err (Bad unit kind at)) = rule ≡ Err (unit_fault kind unit at)
 Answers rule (Err NoMemory) = Unit {0}
 
+-- what is given of this program, unless it was refused
+abbrev pub settled : Result (Unit {0}) CheckRefusal → Program → Result Program CheckRefusal
+settled (Ok u) p = Ok p
+settled (Err refusal) p = Err refusal
+
 -- the program so far, which the call leaves, or the first fault
 abbrev pub LeavesUnits : Result Progress UnitFault → Result (Unit {0}) CheckRefusal → Progress → Type 0
 LeavesUnits rule (Ok u) p = rule ≡ Ok p

@@ -1,6 +1,6 @@
 ghost use Rattle.std.specs.Prelude.{◌≡◌};
-ghost use Rattle.c_typing.specs.Units.{nothing_yet, visit_units, program_of, typed};
-ghost use Rattle.c_check.specs.Answers.{Answers, LeavesUnits, refusal_in};
+ghost use Rattle.c_typing.specs.Units.{nothing_yet, visit_units, program_of, answered, typed};
+ghost use Rattle.c_check.specs.Answers.{Answers, LeavesUnits, refusal_in, settled};
 
 use crate::items::type_unit;
 use crate::missing::check_missing;
@@ -94,6 +94,36 @@ fn finish(units: &[Unit], state: Progress) -> Program
     }
 }
 
+/// Units in order, and then what a whole program must have beyond them.
+fn type_program(
+    alloc: Global,
+    units: &[Unit],
+    whole: bool,
+    state: &mut Progress,
+) -> Result<(), CheckRefusal>
+    ensures { Answers (answered units.now whole (visit_units 0 units.now state.old)) (settled result (program_of units.now state.new)) }
+{
+    type_units(alloc, units, state)?;
+    if whole {
+        check_missing(units, state)?;
+    }
+    Ok(())
+}
+
+/// The program that was visited, unless it was refused.
+fn settle(
+    units: &[Unit],
+    outcome: Result<(), CheckRefusal>,
+    state: Progress,
+) -> Result<Program, CheckRefusal>
+    ensures { result ≡ settled outcome (program_of units.now state) }
+{
+    match outcome {
+        Ok(()) => Ok(finish(units, state)),
+        Err(refusal) => Err(refusal),
+    }
+}
+
 /// The program that units are, every conversion written out. Of a whole program, what it declares is
 /// defined, `int main(void)` too; units that aren't whole may lack both.
 ///
@@ -107,9 +137,6 @@ pub fn check(alloc: Global, units: &[Unit], whole: bool) -> Result<Program, Chec
     ensures { Answers (typed units.now whole) result }
 {
     let mut state = start(alloc);
-    type_units(alloc, units, &mut state)?;
-    if whole {
-        check_missing(units, &state)?;
-    }
-    Ok(finish(units, state))
+    let outcome = type_program(alloc, units, whole, &mut state);
+    settle(units, outcome, state)
 }
