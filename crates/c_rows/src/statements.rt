@@ -4,6 +4,8 @@ mod building;
 mod printing;
 
 use building::block_of;
+use c_program::TypedItem;
+use c_tree::BlockItem;
 use c_types::{IntTy, Ty};
 use c_typing::{
     Enclosing, Fault, LocalMeaning, LocalName, LocalScope, Meaning, Refusal, Tables, UnitName,
@@ -87,18 +89,18 @@ static IN_VOID: [Row; 4] = [
 ];
 
 fn unit_scope(alloc: Global) -> Result<UnitScope, AllocError> {
-    let mut names = NamedRows::new(alloc);
     let name = Items::from_slice(alloc, b"s")?;
     let meaning = Meaning::Global(0, Ty::Struct(0));
+    let mut names = NamedRows::new(alloc);
     names.push(UnitName { name, meaning })?;
     let tags = NamedRows::new(alloc);
     Ok(UnitScope { names, tags })
 }
 
 fn parameters(alloc: Global) -> Result<LocalScope, AllocError> {
-    let mut own = NamedRows::new(alloc);
     let name = Items::from_slice(alloc, b"p")?;
     let meaning = LocalMeaning::Variable(0, INT);
+    let mut own = NamedRows::new(alloc);
     own.push(LocalName { name, meaning })?;
     let outer = Items::new(alloc);
     Ok(LocalScope { own, outer })
@@ -114,19 +116,44 @@ fn tables(alloc: Global) -> Result<Tables, AllocError> {
     })
 }
 
-fn told(alloc: Global, f: Enclosing, text: &[u8]) -> Result<String, AllocError> {
-    let block = block_of(alloc, text)?;
-    let unit = unit_scope(alloc)?;
-    let mut locals = parameters(alloc)?;
-    let mut tables = tables(alloc)?;
+fn line_of(alloc: Global, typed: Result<Items<TypedItem>, Refusal>) -> Result<String, AllocError> {
     let mut line = String::new(alloc);
-    let items = block.as_slice();
-    match type_items(alloc, &unit, f, false, items, &mut locals, &mut tables) {
+    match typed {
         Ok(typed) => show_items(&mut line, typed.as_slice())?,
         Err(Refusal::Fault(Fault { kind, at })) => write!(line, "{kind:?}@{at}")?,
         Err(Refusal::NoMemory) => return Err(AllocError),
     }
     Ok(line)
+}
+
+fn told_in(
+    alloc: Global,
+    f: Enclosing,
+    items: &[BlockItem],
+    unit: &UnitScope,
+    locals: &mut LocalScope,
+) -> Result<String, AllocError> {
+    let mut tables = tables(alloc)?;
+    line_of(
+        alloc,
+        type_items(alloc, unit, f, false, items, locals, &mut tables),
+    )
+}
+
+fn told_with(
+    alloc: Global,
+    f: Enclosing,
+    items: &[BlockItem],
+    unit: &UnitScope,
+) -> Result<String, AllocError> {
+    let mut locals = parameters(alloc)?;
+    told_in(alloc, f, items, unit, &mut locals)
+}
+
+fn told(alloc: Global, f: Enclosing, text: &[u8]) -> Result<String, AllocError> {
+    let unit = unit_scope(alloc)?;
+    let block = block_of(alloc, text)?;
+    told_with(alloc, f, block.as_slice(), &unit)
 }
 
 fn check(rt: &impl Abort, alloc: Global, f: Enclosing, rows: &[Row]) -> Result<(), AllocError> {

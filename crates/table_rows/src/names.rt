@@ -33,18 +33,26 @@ static ROWS: [Row; 8] = [
     (b"abc", b"", None, true),
 ];
 
-fn rows_of(alloc: Global, letters: &[u8]) -> Result<NamedRows<Letter, ()>, AllocError> {
-    let mut rows = NamedRows::new(alloc);
+fn push_all(
+    alloc: Global,
+    letters: &[u8],
+    rows: &mut NamedRows<Letter, ()>,
+) -> Result<(), AllocError> {
     for letter in letters {
         let name = Items::from_slice(alloc, &[*letter])?;
         rows.push(Letter { name })?;
     }
-    Ok(rows)
+    Ok(())
 }
 
-fn check(rt: &impl Abort, alloc: Global, row: &Row) -> Result<(), AllocError> {
+fn check_in(
+    rt: &impl Abort,
+    alloc: Global,
+    row: &Row,
+    rows: &mut NamedRows<Letter, ()>,
+) -> Result<(), AllocError> {
     let (letters, name, want, distinct) = row;
-    let rows = rows_of(alloc, letters)?;
+    push_all(alloc, letters, rows)?;
     assert_eq!(rt; rows.find(name), *want, "at {letters:?}");
     assert_eq!(rt;
         rows.find_row(name).is_some(),
@@ -56,6 +64,11 @@ fn check(rt: &impl Abort, alloc: Global, row: &Row) -> Result<(), AllocError> {
     Ok(())
 }
 
+fn check(rt: &impl Abort, alloc: Global, row: &Row) -> Result<(), AllocError> {
+    let mut rows = NamedRows::new(alloc);
+    check_in(rt, alloc, row, &mut rows)
+}
+
 #[test]
 fn first_of_a_name(rt: HostRuntime) -> Result<(), Fail> {
     for row in &ROWS {
@@ -64,15 +77,25 @@ fn first_of_a_name(rt: HostRuntime) -> Result<(), Fail> {
     Ok(())
 }
 
-#[test]
-fn another_row_of_the_name(rt: HostRuntime) -> Result<(), Fail> {
-    let mut rows = rows_of(rt.alloc(), b"aba")?;
-    let name = Items::from_slice(rt.alloc(), b"b")?;
+fn change_one(
+    rt: &impl Abort,
+    alloc: Global,
+    rows: &mut NamedRows<Letter, ()>,
+) -> Result<(), AllocError> {
+    push_all(alloc, b"aba", rows)?;
+    let name = Items::from_slice(alloc, b"b")?;
     if rows.get(1).is_some_and(|row| row.name() == b"b".as_slice()) {
         rows.set(1, Letter { name });
     }
     assert_eq!(rt; rows.find(b"b"), Some(1));
     assert_eq!(rt; rows.as_slice().len(), 3);
+    Ok(())
+}
+
+#[test]
+fn another_row_of_the_name(rt: HostRuntime) -> Result<(), Fail> {
+    let mut rows = NamedRows::new(rt.alloc());
+    change_one(&rt, rt.alloc(), &mut rows)?;
     assert_eq!(rt; rows.into_items().len(), 3);
     Ok(())
 }

@@ -3,6 +3,7 @@
 use c_types::{FunTy, IntTy, StructDef, Ty};
 use hx_words::Items;
 use std::alloc::{AllocError, Global};
+use std::process::Abort;
 use std::test::Fail;
 use type_table::TypeTable;
 
@@ -29,17 +30,20 @@ static PLACES: [(Ty, Option<usize>); 9] = [
     (Ty::Array(1, 3), None),
 ];
 
-#[test]
-fn first_of_a_type(rt: HostRuntime) -> Result<(), Fail> {
-    let mut table = TypeTable::new(rt.alloc());
+fn types_found(rt: &(impl Abort + AllocGlobal), table: &mut TypeTable) -> Result<(), Fail> {
     for ty in &TYPES {
         table.push_ty(*ty)?;
     }
     for (ty, want) in &PLACES {
         assert_eq!(rt; table.find_ty(*ty), *want, "at {ty:?}");
     }
-    assert_eq!(rt; table.into_types().tys.len(), 8);
     Ok(())
+}
+
+#[test]
+fn first_of_a_type(rt: HostRuntime) -> Result<(), Fail> {
+    let mut table = TypeTable::new(rt.alloc());
+    types_found(&rt, &mut table)
 }
 
 fn function(alloc: Global, params: &[Ty], variadic: bool) -> Result<FunTy, AllocError> {
@@ -50,23 +54,31 @@ fn function(alloc: Global, params: &[Ty], variadic: bool) -> Result<FunTy, Alloc
     })
 }
 
-#[test]
-fn first_of_a_function_type(rt: HostRuntime) -> Result<(), Fail> {
+/// Parameters, whether more arguments can follow, and the place at which the function's type is found.
+static FUNCTIONS: [(&[Ty], bool, Option<usize>); 4] = [
+    (&[Ty::Int(IntTy::I32)], false, Some(0)),
+    (&[Ty::Int(IntTy::I32), Ty::Int(IntTy::I32)], false, Some(1)),
+    (&[Ty::Int(IntTy::I32)], true, Some(3)),
+    (&[], false, None),
+];
+
+fn functions_found(rt: &(impl Abort + AllocGlobal), table: &mut TypeTable) -> Result<(), Fail> {
     let int = Ty::Int(IntTy::I32);
-    let mut table = TypeTable::new(rt.alloc());
     table.push_fun(function(rt.alloc(), &[int], false)?)?;
     table.push_fun(function(rt.alloc(), &[int, int], false)?)?;
     table.push_fun(function(rt.alloc(), &[int], false)?)?;
     table.push_fun(function(rt.alloc(), &[int], true)?)?;
-    let one = function(rt.alloc(), &[int], false)?;
-    assert_eq!(rt; table.find_fun(&one)?, Some(0));
-    let two = function(rt.alloc(), &[int, int], false)?;
-    assert_eq!(rt; table.find_fun(&two)?, Some(1));
-    let more = function(rt.alloc(), &[int], true)?;
-    assert_eq!(rt; table.find_fun(&more)?, Some(3));
-    let none = function(rt.alloc(), &[], false)?;
-    assert_eq!(rt; table.find_fun(&none)?, None);
+    for (params, variadic, want) in &FUNCTIONS {
+        let f = function(rt.alloc(), params, *variadic)?;
+        assert_eq!(rt; table.find_fun(&f)?, *want, "at {params:?}");
+    }
     Ok(())
+}
+
+#[test]
+fn first_of_a_function_type(rt: HostRuntime) -> Result<(), Fail> {
+    let mut table = TypeTable::new(rt.alloc());
+    functions_found(&rt, &mut table)
 }
 
 fn tagged(alloc: Global, tag: &[u8]) -> Result<StructDef, AllocError> {
@@ -77,10 +89,7 @@ fn tagged(alloc: Global, tag: &[u8]) -> Result<StructDef, AllocError> {
     })
 }
 
-/// A struct takes the place of one of its tag, and then of one of another tag.
-#[test]
-fn first_of_a_tag(rt: HostRuntime) -> Result<(), Fail> {
-    let mut table = TypeTable::new(rt.alloc());
+fn tags_found(rt: &(impl Abort + AllocGlobal), table: &mut TypeTable) -> Result<(), Fail> {
     for tag in [b"a", b"b", b"a"] {
         table.push_struct(tagged(rt.alloc(), tag)?)?;
     }
@@ -92,4 +101,11 @@ fn first_of_a_tag(rt: HostRuntime) -> Result<(), Fail> {
     assert_eq!(rt; table.find_struct(b"c"), Some(0));
     assert_eq!(rt; table.find_struct(b"d"), None);
     Ok(())
+}
+
+/// A struct takes the place of one of its tag, and then of one of another tag.
+#[test]
+fn first_of_a_tag(rt: HostRuntime) -> Result<(), Fail> {
+    let mut table = TypeTable::new(rt.alloc());
+    tags_found(&rt, &mut table)
 }
