@@ -33,8 +33,8 @@ def brackets(n):
 ROWS = (
     ("globals", globals_named, 4_000),
     ("locals", locals_named, 4_000),
-    ("structs", structs_nested, 16_000),
-    ("brackets", brackets, 64_000),
+    ("structs", structs_nested, 8_000),
+    ("brackets", brackets, 20_000),
 )
 
 
