@@ -300,7 +300,14 @@ fn images(rt: HostRuntime) -> Result<(), Fail> {
             *at = *byte;
         }
         let wanted = (*output, *note, *status);
-        runs(&rt, line, ("p.img", &file), b"Z!", &first_fails(*failing), wanted)?;
+        runs(
+            &rt,
+            line,
+            ("p.img", &file),
+            b"Z!",
+            &first_fails(*failing),
+            wanted,
+        )?;
     }
     Ok(())
 }
