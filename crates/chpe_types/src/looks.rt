@@ -24,7 +24,7 @@ pub fn kind_at(m: &Meta, rva: u32) -> Option<u8>
 }
 
 /// The side of the code at a place, as [`kind_at`] tells it. `near` is a guess of the number of the range that has the
-/// place, which is tried first; any number will do. After a wrong guess it is the last range that starts by the place.
+/// place, which is tried first: any number will do, and what is left there is a guess for the next call.
 pub fn kind_near(m: &Meta, rva: u32, near: &mut usize) -> Option<u8>
     requires { IsTrue (valid_meta_of m.now) }
     ensures { result ≡ kind_of m.now rva }
