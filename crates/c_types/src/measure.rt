@@ -1,5 +1,6 @@
-ghost use Rattle.std.specs.Prelude.{◌≡◌, ◌+◌, ◌*◌, ◌^◌, ◌<◌, ◌≤◌, IfSome, slice_get, IsSome};
-ghost use Rattle.c_types.specs.Layout.{bytes_of, rounded, below_limit, with_field, empty_struct, fields_from, elements, element_by, struct_by, extent_within, extent_of, size_of, align_of, depth_of, field_place_of, offset_of, IsSmall};
+ghost use Rattle.std.specs.Prelude.{◌≡◌, ◌+◌, ◌*◌, ◌^◌, ◌<◌, ◌≤◌, false, Some, None, IfSome, slice_get, IsSome};
+ghost use Rattle.c_types.specs.Layout.{bytes_of, rounded, below_limit, with_field, empty_struct, fields_from, struct_by, extent_within, extent_of, size_of, align_of, depth_of, field_place_of, offset_of, IsSmall};
+ghost use Rattle.c_types.specs.Rows.{capped, row_extent, is_array, IsRows, IsWalked, IsInner};
 
 use crate::types::{FieldDef, IntTy, Ty, Types};
 
@@ -65,16 +66,84 @@ fn add_field(so_far: Extent, field: Extent) -> Option<Extent>
     within_limit(place + field.size, so_far.align.max(field.align))
 }
 
-/// A row of elements.
-#[tactic(auto, unfolding(crate::specs::Layout::below_limit))]
-fn elements_extent(count: u64, element: Extent) -> Option<Extent>
-    requires { IsSmall element }
-    ensures value { result ≡ below_limit (count * element.size) element.align }
+/// What an array type comes to behind its brackets: the element that is no array, how deep it may be
+/// nested still, and of the counts in the brackets the product, and the greatest product that the last
+/// of some first of them have. Both stop at the limit.
+#[derive(Clone, Copy, Debug, PartialEq, Eq)]
+struct Rows {
+    element: Ty,
+    depth: u64,
+    count: u64,
+    most: u64,
+}
+
+/// A product that stops at the limit.
+fn product(a: u64, b: u64) -> u64
+    ensures { result ≡ capped (a * b) }
+{
+    a.saturating_mul(b).min(LIMIT)
+}
+
+/// Behind one more bracket.
+#[tactic(auto, using(crate::proofs::RowLaws::inner_left, crate::proofs::RowLaws::inner_none))]
+fn inner_rows(types: &Types, rows: Rows, place: u32, count: u64) -> Option<Rows>
+    requires some { 0 < rows.depth }
+    requires array { rows.element ≡ Ty.Array place count }
+    requires rows { IsRows rows }
+    ensures left { IfSome result (IsInner types.now rows) }
+    ensures none { result ≡ None → extent_within rows.depth types.now rows.element ≡ None }
+{
+    let element = types.tys.get(place as usize)?;
+    Some(Rows {
+        element: *element,
+        depth: rows.depth - 1,
+        count: product(rows.count, count),
+        most: product(rows.most, count).max(1),
+    })
+}
+
+fn is_array(ty: Ty) -> bool
+    ensures { result ≡ is_array ty }
+{
+    match ty {
+        Ty::Array(_, _) => true,
+        _ => false,
+    }
+}
+
+/// Down to the element that is no array.
+fn rows_of(types: &Types, ty: Ty, depth: u64) -> Option<Rows>
+    ensures left { IfSome result (IsWalked types.now ty depth) }
+    ensures none { result ≡ None → extent_within depth types.now ty ≡ None }
+{
+    let mut rows = Rows {
+        element: ty,
+        depth,
+        count: 1,
+        most: 1,
+    };
+    for _turn in 0..depth {
+        match rows.element {
+            Ty::Array(place, count) => rows = inner_rows(types, rows, place, count)?,
+            _ => return Some(rows),
+        }
+    }
+    None
+}
+
+/// Rows of elements of this extent.
+fn rows_extent(rows: Rows, element: Extent) -> Option<Extent>
+    requires rows { IsRows rows }
+    requires small { IsSmall element }
+    ensures value { result ≡ row_extent rows.count rows.most (Some element) }
     ensures small { IfSome result IsSmall }
 {
-    match count.checked_mul(element.size) {
-        Some(size) => within_limit(size, element.align),
-        None => None,
+    match rows.most.checked_mul(element.size) {
+        Some(bytes) if bytes < LIMIT => Some(Extent {
+            size: rows.count * element.size,
+            align: element.align,
+        }),
+        _ => None,
     }
 }
 
@@ -105,20 +174,11 @@ fn struct_extent(types: &Types, place: u32, depth: u64) -> Option<Extent>
     within_limit(round_up(fields.size, fields.align), fields.align)
 }
 
-#[cycle(extent)]
-fn array_extent(types: &Types, place: u32, count: u64, depth: u64) -> Option<Extent>
-    ensures value { result ≡ elements count (element_by (extent_within depth types.now) (slice_get types.now.tys place)) }
-    ensures small { IfSome result IsSmall }
-{
-    let element = types.tys.get(place as usize)?;
-    let extent = extent_at(types, *element, depth)?;
-    elements_extent(count, extent)
-}
-
-/// The extent of a type whose parts are nested less deep than `depth`.
+/// The extent of a type that is no array and whose parts are nested less deep than `depth`.
 #[cycle(extent)]
 #[tactic(auto, using(crate::proofs::LayoutLaws::within_step, crate::proofs::LayoutLaws::within_zero))]
-fn extent_at(types: &Types, ty: Ty, depth: u64) -> Option<Extent>
+fn element_extent(types: &Types, ty: Ty, depth: u64) -> Option<Extent>
+    requires { is_array ty ≡ false }
     ensures value { result ≡ extent_within depth types.now ty }
     ensures small { IfSome result IsSmall }
 {
@@ -126,15 +186,26 @@ fn extent_at(types: &Types, ty: Ty, depth: u64) -> Option<Extent>
         return None;
     }
     match ty {
-        Ty::Void => None,
+        Ty::Void | Ty::Array(_, _) => None,
         Ty::Int(int) => Some(Extent {
             size: bytes(int),
             align: bytes(int),
         }),
         Ty::Ptr(_) | Ty::Fun(_) => Some(Extent { size: 8, align: 8 }),
         Ty::Struct(place) => struct_extent(types, place, depth - 1),
-        Ty::Array(place, count) => array_extent(types, place, count, depth - 1),
     }
+}
+
+/// The extent of a type whose parts are nested less deep than `depth`. Brackets are walked in a loop, and
+/// structs by recursion.
+#[cycle(extent)]
+fn extent_at(types: &Types, ty: Ty, depth: u64) -> Option<Extent>
+    ensures value { result ≡ extent_within depth types.now ty }
+    ensures small { IfSome result IsSmall }
+{
+    let rows = rows_of(types, ty, depth)?;
+    let element = element_extent(types, rows.element, rows.depth)?;
+    rows_extent(rows, element)
 }
 
 /// More than the types on a way from a type to a part of it, where no type is a part of itself.
