@@ -1,14 +1,14 @@
 -- Behind one more bracket an array comes to the same extent.
-use Rattle.std.proofs.Common.{◌≡◌, ℕ, zero, suc, ◌+◌, ◌-◌, ◌*◌, ◌<◌, ◌≤◌, max, min, true, false, cond, ltb, Option, Some, None, slice_get, refl, sym, ap, subst, ◌∙◌, ⊎_elim, arith}
+use Rattle.std.proofs.Common.{◌≡◌, ℕ, zero, suc, ◌-◌, ◌*◌, ◌<◌, ◌≤◌, max, true, false, cond, Option, Some, None, slice_get, refl, sym, ap, subst, ◌∙◌, ⊎_elim, arith}
 use Rattle.std.specs.Prelude.{nat_lt}
 use Rattle.std.proofs.lemmas.Bool.{cases_Bool, cond-true, cond-false, ltb-true, ltb-false, lt-ltb, le-ltb}
 use Rattle.std.proofs.lemmas.Option.{none-some}
-use Rattle.std.proofs.Math.Nat.{mul_assoc, mul-le-mul_left, mul-le-mul_right, le-mul_of_pos_right, mul-zero, min-eq_left, min-eq_right, max-eq_left, max-eq_right, le-max_left, le-max_right, min-le_left, min-le_right}
+use Rattle.std.proofs.Math.Nat.{mul_assoc, mul-le-mul_right, le-mul_of_pos_right, mul-zero, min-eq_left, min-eq_right, max-eq_left, max-eq_right, le-max_left, le-max_right, min-le_left, min-le_right}
 use Rattle.c_types.specs.declared.types.Ty.{Ty}
 use Rattle.c_types.specs.declared.types.Ty.TheVariants.{Void, Int, Ptr, Fun, Struct, Array}
 use Rattle.c_types.specs.declared.types.IntTy.TheVariants.{I8, U8, I16, U16, I32, U32, I64, U64}
 use Rattle.c_types.specs.declared.types.Types.{Types}
-use Rattle.c_types.specs.declared.measure.Extent.{Extent}
+use Rattle.c_types.specs.declared.parts.Extent.{Extent}
 use Rattle.c_types.specs.declared.measure.Rows.{Rows}
 use Rattle.c_types.specs.Layout.{bytes_of, below_limit, after, whole, fields_from, empty_struct, elements, element_by, struct_by, extent_by, extent_within}
 use Rattle.c_types.specs.Rows.{capped, row_extent, IsRows, IsInner}
@@ -23,9 +23,9 @@ small_below : (n a : ℕ) (e : Extent) → below_limit n a ≡ Some e → e.size
 unfolding below_limit
 small_below n a e h = ⊎_elim
     (λ t.
-    let is : record {size = n; align = a} ≡ e = same_extent _ _ (sym (cond-true (nat_lt n 4611686018427387904) (Some (record {size = n; align = a})) None t) ∙ h) in
+    let is : record { size = n; align = a } ≡ e = same_extent _ _ (sym (cond-true (nat_lt n 4611686018427387904) (Some (record { size = n; align = a })) None t) ∙ h) in
     subst (λ (x : Extent). x.size < 4611686018427387904) is (ltb-true n 4611686018427387904 t))
-    (λ f. absurd (none-some e (sym (cond-false (nat_lt n 4611686018427387904) (Some (record {size = n; align = a})) None f) ∙ h)))
+    (λ f. absurd (none-some e (sym (cond-false (nat_lt n 4611686018427387904) (Some (record { size = n; align = a })) None f) ∙ h)))
     (cases_Bool (nat_lt n 4611686018427387904))
 
 -- ---- one bracket
@@ -102,7 +102,7 @@ within_most m n s small under = ⊎_elim
 
 module _ (p m n : ℕ) (e : Extent) (some : 0 < m) (within : p ≤ m) (small : e.size < 4611686018427387904) where
   abbrev row_of : ℕ → Option Extent
-  row_of c = Some (record {size = c; align = e.align})
+  row_of c = Some (record { size = c; align = e.align })
 
   cut_off : 4611686018427387904 ≤ max (capped (m * n)) 1 * e.size → row_extent (capped (p * n)) (max (capped (m * n)) 1) (Some e) ≡ None
   cut_off over = cond-false (nat_lt (max (capped (m * n)) 1 * e.size) 4611686018427387904) (row_of (capped (p * n) * e.size)) None (le-ltb (max (capped (m * n)) 1 * e.size) 4611686018427387904 over)
@@ -111,7 +111,7 @@ module _ (p m n : ℕ) (e : Extent) (some : 0 < m) (within : p ≤ m) (small : e
   unfolding below_limit
   elements_over f = cond-false (nat_lt (n * e.size) 4611686018427387904) (row_of (n * e.size)) None f
 
-  elements_in : nat_lt (n * e.size) 4611686018427387904 ≡ true → elements n (Some e) ≡ Some (record {size = n * e.size; align = e.align})
+  elements_in : nat_lt (n * e.size) 4611686018427387904 ≡ true → elements n (Some e) ≡ Some (record { size = n * e.size; align = e.align })
   unfolding below_limit
   elements_in t = cond-true (nat_lt (n * e.size) 4611686018427387904) (row_of (n * e.size)) None t
 
@@ -201,7 +201,7 @@ module _ (t : Types) (r : Rows) (k n : ℕ) (some : 0 < r.depth) (array : r.elem
     };
     depth = omega (arith, some);
     extent = ap (row_extent r.count r.most) (behind ∙ ap (λ o. elements n (element_by (extent_within (r.depth - 1) t) o)) there)
-      ∙ any_bracket r.count r.most n (extent_within (r.depth - 1) t x) is.some is.within (λ e h. within_small (r.depth - 1) t x e h);
+        ∙ any_bracket r.count r.most n (extent_within (r.depth - 1) t x) is.some is.within (λ e h. within_small (r.depth - 1) t x e h);
   }
 
 -- ---- before the first bracket, and where no depth is left
@@ -210,8 +210,8 @@ plain : (o : Option Extent) → ((e : Extent) → o ≡ Some e → e.size < 4611
 plain None small = refl
 plain (Some e) small =
     let same : e.size ≡ 1 * e.size = omega arith in
-    ap (λ (k : ℕ). Some (record {size = k; align = e.align})) same
-    ∙ sym (cond-true (nat_lt (1 * e.size) 4611686018427387904) (Some (record {size = 1 * e.size; align = e.align})) None (lt-ltb (1 * e.size) 4611686018427387904 (omega (arith, same, small e refl))))
+    ap (λ (k : ℕ). Some (record { size = k; align = e.align })) same
+    ∙ sym (cond-true (nat_lt (1 * e.size) 4611686018427387904) (Some (record { size = 1 * e.size; align = e.align })) None (lt-ltb (1 * e.size) 4611686018427387904 (omega (arith, same, small e refl))))
 
 pub no_bracket : (d : ℕ) (t : Types) (ty : Ty) → extent_within d t ty ≡ row_extent 1 1 (extent_within d t ty)
 no_bracket d t ty = plain (extent_within d t ty) (λ e h. within_small d t ty e h)

@@ -2,7 +2,7 @@
 -- storage", "Structures"): integers of 1, 2, 4 and 8 bytes, pointers of 8, each at a multiple of its
 -- size; an array is its elements in a row; a struct's fields stand in order, each at the next
 -- multiple of its alignment, and the size is rounded up to the largest alignment among them.
-use Rattle.std.specs.Prelude.{◌≡◌, ℕ, zero, suc, ◌+◌, ◌-◌, ◌*◌, ◌/◌, ◌<◌, ◌≤◌, max, min, Bool, true, false, cond, nat_lt, List, [], ◌∷◌, length, take, Option, Some, None, slice_get}
+use Rattle.std.specs.Prelude.{ℕ, zero, suc, ◌+◌, ◌-◌, ◌*◌, ◌/◌, ◌<◌, ◌≤◌, max, min, cond, nat_lt, List, [], ◌∷◌, length, take, Option, Some, None, slice_get}
 use Rattle.c_types.specs.declared.types.IntTy.{IntTy}
 use Rattle.c_types.specs.declared.types.IntTy.TheVariants.{I8, U8, I16, U16, I32, U32, I64, U64}
 use Rattle.c_types.specs.declared.types.Ty.{Ty}
@@ -10,7 +10,7 @@ use Rattle.c_types.specs.declared.types.Ty.TheVariants.{Void, Int, Ptr, Fun, Str
 use Rattle.c_types.specs.declared.types.FieldDef.{FieldDef}
 use Rattle.c_types.specs.declared.types.StructDef.{StructDef}
 use Rattle.c_types.specs.declared.types.Types.{Types}
-use Rattle.c_types.specs.declared.measure.Extent.{Extent}
+use Rattle.c_types.specs.declared.parts.Extent.{Extent}
 
 abbrev pub bytes_of : IntTy → ℕ
 bytes_of I8 = 1
@@ -21,6 +21,15 @@ bytes_of I32 = 4
 bytes_of U32 = 4
 bytes_of I64 = 8
 bytes_of U64 = 8
+
+-- the extent of a type without parts
+abbrev pub leaf_of : Ty → Option Extent
+leaf_of Void = None
+leaf_of (Int i) = Some (record { size = bytes_of i; align = bytes_of i })
+leaf_of (Ptr k) = Some (record { size = 8; align = 8 })
+leaf_of (Fun k) = Some (record { size = 8; align = 8 })
+leaf_of (Struct k) = None
+leaf_of (Array k n) = None
 
 -- up to the next multiple of a
 abbrev pub rounded : ℕ → ℕ → ℕ

@@ -1,10 +1,10 @@
 -- An array behind its brackets: of the counts in them the product, and the greatest product that the last of some
 -- first of them have. Both stop at the limit of sizes. Above it stands that the extent by them is that of the layout.
-use Rattle.std.specs.Prelude.{◌≡◌, ℕ, suc, ◌*◌, ◌<◌, ◌≤◌, max, min, Bool, true, false, cond, nat_lt, Option, Some, None}
+use Rattle.std.specs.Prelude.{◌≡◌, ℕ, suc, ◌*◌, ◌<◌, ◌≤◌, min, Bool, true, false, cond, nat_lt, Option, Some, None}
 use Rattle.c_types.specs.declared.types.Ty.{Ty}
 use Rattle.c_types.specs.declared.types.Ty.TheVariants.{Void, Int, Ptr, Fun, Struct, Array}
 use Rattle.c_types.specs.declared.types.Types.{Types}
-use Rattle.c_types.specs.declared.measure.Extent.{Extent}
+use Rattle.c_types.specs.declared.parts.Extent.{Extent}
 use Rattle.c_types.specs.declared.measure.Rows.{Rows}
 use Rattle.c_types.specs.Layout.{extent_within}
 

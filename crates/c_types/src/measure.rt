@@ -1,70 +1,10 @@
-ghost use Rattle.std.specs.Prelude.{◌≡◌, ◌+◌, ◌*◌, ◌^◌, ◌<◌, ◌≤◌, false, Some, None, IfSome, slice_get, IsSome};
-ghost use Rattle.c_types.specs.Layout.{bytes_of, rounded, below_limit, with_field, empty_struct, fields_from, struct_by, extent_within, extent_of, size_of, align_of, depth_of, field_place_of, offset_of, IsSmall};
+//! The walk over a type's parts: brackets in a loop, structs by recursion.
+ghost use Rattle.std.specs.Prelude.{◌≡◌, ◌*◌, ◌<◌, false, Some, None, IfSome, slice_get};
+ghost use Rattle.c_types.specs.Layout.{empty_struct, fields_from, struct_by, extent_within, extent_of, size_of, align_of, field_place_of, offset_of, IsSmall};
 ghost use Rattle.c_types.specs.Rows.{capped, row_extent, is_array, IsRows, IsWalked, IsInner};
 
-use crate::types::{FieldDef, IntTy, Ty, Types};
-
-/// The size and the alignment of a type in bytes.
-#[derive(Clone, Copy, Debug, PartialEq, Eq)]
-pub struct Extent {
-    pub size: u64,
-    pub align: u64,
-}
-
-/// Sizes stay below this.
-const LIMIT: u64 = 1 << 62;
-
-/// As many places as a `u32` can name.
-const PLACES: u64 = 1 << 32;
-
-fn bytes(int: IntTy) -> u64
-    ensures value { result ≡ bytes_of int }
-    ensures some { 0 < result }
-    ensures small { result ≤ 8 }
-{
-    match int {
-        IntTy::I8 | IntTy::U8 => 1,
-        IntTy::I16 | IntTy::U16 => 2,
-        IntTy::I32 | IntTy::U32 => 4,
-        IntTy::I64 | IntTy::U64 => 8,
-    }
-}
-
-/// Up to the next multiple of an alignment.
-fn round_up(place: u64, align: u64) -> u64
-    requires low { 0 < align }
-    requires high { align ≤ 8 }
-    requires place_below { place < 2 ^ 62 }
-    ensures value { result ≡ rounded place align }
-    ensures near { result ≤ place + 7 }
-{
-    (place + (align - 1)) / align * align
-}
-
-#[tactic(auto, unfolding(crate::specs::Layout::below_limit))]
-fn within_limit(size: u64, align: u64) -> Option<Extent>
-    requires low { 0 < align }
-    requires high { align ≤ 8 }
-    ensures value { result ≡ below_limit size align }
-    ensures small { IfSome result IsSmall }
-{
-    if size < LIMIT {
-        Some(Extent { size, align })
-    } else {
-        None
-    }
-}
-
-/// The part of a struct up to a field's end.
-fn add_field(so_far: Extent, field: Extent) -> Option<Extent>
-    requires so_far_small { IsSmall so_far }
-    requires field_small { IsSmall field }
-    ensures value { result ≡ with_field so_far field }
-    ensures small { IfSome result IsSmall }
-{
-    let place = round_up(so_far.size, field.align);
-    within_limit(place + field.size, so_far.align.max(field.align))
-}
+use crate::parts::{Extent, LIMIT, add_field, add_padding, leaf_extent, nesting, round_up};
+use crate::types::{FieldDef, Ty, Types};
 
 /// What an array type comes to behind its brackets: the element that is no array, how deep it may be
 /// nested still, and of the counts in the brackets the product, and the greatest product that the last
@@ -171,7 +111,7 @@ fn struct_extent(types: &Types, place: u32, depth: u64) -> Option<Extent>
         return None;
     }
     let fields = fields_extent(types, definition.fields.as_slice(), depth)?;
-    within_limit(round_up(fields.size, fields.align), fields.align)
+    add_padding(fields)
 }
 
 /// The extent of a type that is no array and whose parts are nested less deep than `depth`.
@@ -186,13 +126,8 @@ fn element_extent(types: &Types, ty: Ty, depth: u64) -> Option<Extent>
         return None;
     }
     match ty {
-        Ty::Void | Ty::Array(_, _) => None,
-        Ty::Int(int) => Some(Extent {
-            size: bytes(int),
-            align: bytes(int),
-        }),
-        Ty::Ptr(_) | Ty::Fun(_) => Some(Extent { size: 8, align: 8 }),
         Ty::Struct(place) => struct_extent(types, place, depth - 1),
+        Ty::Void | Ty::Int(_) | Ty::Ptr(_) | Ty::Fun(_) | Ty::Array(_, _) => leaf_extent(ty),
     }
 }
 
@@ -208,22 +143,13 @@ fn extent_at(types: &Types, ty: Ty, depth: u64) -> Option<Extent>
     rows_extent(rows, element)
 }
 
-/// More than the types on a way from a type to a part of it, where no type is a part of itself.
-fn depth(types: &Types) -> u64
-    ensures { result ≡ depth_of types.now }
-{
-    let tys = (types.tys.len() as u64).min(PLACES);
-    let structs = (types.structs.len() as u64).min(PLACES);
-    tys + structs + 1
-}
-
 /// The size and the alignment of a type; none for void, an incomplete type, a type that is a part of
 /// itself, and one on whose way a size reaches 2^62 bytes.
 pub fn layout(types: &Types, ty: Ty) -> Option<Extent>
     ensures value { result ≡ extent_of types.now ty }
     ensures small { IfSome result IsSmall }
 {
-    let depth = depth(types);
+    let depth = nesting(types);
     extent_at(types, ty, depth)
 }
 
@@ -253,7 +179,7 @@ fn field_place(types: &Types, s: usize, field: usize) -> Option<u64>
 {
     let definition = types.structs.get(s)?;
     let own = definition.fields.get(field)?;
-    let depth = depth(types);
+    let depth = nesting(types);
     let before = fields_extent(types, &definition.fields.as_slice()[..field], depth)?;
     let extent = extent_at(types, own.ty, depth)?;
     Some(round_up(before.size, extent.align))

@@ -12,7 +12,7 @@ use Rattle.c_types.specs.declared.types.FunTy.{FunTy}
 use Rattle.c_types.specs.declared.types.FieldDef.{FieldDef}
 use Rattle.c_types.specs.declared.types.StructDef.{StructDef}
 use Rattle.c_types.specs.declared.types.Types.{Types}
-use Rattle.c_types.specs.declared.measure.Extent.{Extent}
+use Rattle.c_types.specs.declared.parts.Extent.{Extent}
 use Rattle.c_types.specs.Layout.{bytes_of, size_of}
 use Rattle.c_tree.specs.declared.expressions.Base.{Base}
 use Rattle.c_tree.specs.declared.expressions.Base.TheVariants as base

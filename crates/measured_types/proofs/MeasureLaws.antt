@@ -2,18 +2,17 @@
 use Rattle.std.proofs.Common.{◌≡◌, ◌⊎◌, ℕ, zero, suc, ◌+◌, ◌-◌, ◌<◌, ◌≤◌, max, Bool, true, false, cond, List, [], ◌∷◌, ◌++◌, length, drop, get_or, slice_get, slice_set, Option, Some, None, IfSome, refl, sym, ap, subst, ◌∙◌, inl, inr, ⊎_elim, length-append, length-set, drop-cons, arith}
 use Rattle.std.proofs.lemmas.Bool.{true≢false, cases_lt}
 use Rattle.std.proofs.lemmas.Option.{same_Some, none-some, slice_get_within}
-use Rattle.c_types.specs.declared.types.IntTy.{IntTy}
 use Rattle.c_types.specs.declared.types.Ty.{Ty}
 use Rattle.c_types.specs.declared.types.Ty.TheVariants.{Void, Int, Ptr, Fun, Struct, Array}
 use Rattle.c_types.specs.declared.types.FieldDef.{FieldDef}
 use Rattle.c_types.specs.declared.types.FunTy.{FunTy}
 use Rattle.c_types.specs.declared.types.StructDef.{StructDef}
 use Rattle.c_types.specs.declared.types.Types.{Types}
-use Rattle.c_types.specs.declared.measure.Extent.{Extent}
-use Rattle.c_types.specs.Layout.{bytes_of, extent_within, extent_by, extent_of, depth_of, element_by, elements, struct_by, fields_from, with_field, after, whole, empty_struct, IsSmall}
+use Rattle.c_types.specs.declared.parts.Extent.{Extent}
+use Rattle.c_types.specs.Layout.{leaf_of, extent_within, extent_by, depth_of, element_by, elements, struct_by, fields_from, with_field, after, whole, empty_struct, IsSmall}
 use Rattle.c_types.proofs.LayoutLaws.{within_step}
 use Rattle.measured_types.specs.declared.measure.Measured.{Measured}
-use Rattle.measured_types.specs.Measures.{leaf_of, IsExtent, IsMeasure, IsMeasureAt, IsFieldsMeasure, IsStructMeasure, AreMeasures, AreUnknown, complete_in, with_struct}
+use Rattle.measured_types.specs.Measures.{IsExtent, IsMeasure, IsMeasureAt, IsFieldsMeasure, IsStructMeasure, AreMeasures, AreUnknown, complete_in, with_struct}
 
 -- ---- what an extent comes from
 
@@ -309,6 +308,40 @@ module _ (t : Types) (tys structs : List (Option Measured)) where
             struct_placed u k s m (subst (λ n. slice_get u.structs n ≡ Some s) (sym new.0) (at_set t.structs place s within)) (if_some (λ m. IsStructMeasure u s m) o m new.1 is))
             (set_cases structs place o (Some m) k h);
       }
+
+module _ (t : Types) (tys structs : List (Option Measured)) where
+  -- nothing is known yet
+  pub none_noted : length tys ≡ length t.tys → length structs ≡ length t.structs → AreUnknown tys → AreUnknown structs → AreMeasures t tys structs
+  none_noted el sl e n = record {
+    elements_length = el;
+    structs_length = sl;
+    elements_known = λ k m h. absurd (e k m h);
+    structs_known = λ k m h. absurd (n k m h);
+  }
+
+  -- a type of the list is noted
+  pub element_noted : (place : ℕ) (ty : Ty) (o : Option Measured) → slice_get t.tys place ≡ Some ty → AreMeasures t tys structs → IfSome o (λ m. IsMeasure t ty m) → AreMeasures t (slice_set tys place o) structs
+  element_noted place ty o at are is = record {
+    elements_length = length-set tys place o ∙ are.elements_length;
+    structs_length = are.structs_length;
+    elements_known = λ k m h. ⊎_elim
+        (λ old. are.elements_known k m old)
+        (λ new. placed t k ty m (subst (λ n. slice_get t.tys n ≡ Some ty) (sym new.0) at) (if_some (λ m. IsMeasure t ty m) o m new.1 is))
+        (set_cases tys place o (Some m) k h);
+    structs_known = are.structs_known;
+  }
+
+  -- a struct of the list is noted
+  pub struct_noted : (place : ℕ) (s : StructDef) (o : Option Measured) → slice_get t.structs place ≡ Some s → AreMeasures t tys structs → IfSome o (λ m. IsStructMeasure t s m) → AreMeasures t tys (slice_set structs place o)
+  struct_noted place s o at are is = record {
+    elements_length = are.elements_length;
+    structs_length = length-set structs place o ∙ are.structs_length;
+    elements_known = are.elements_known;
+    structs_known = λ k m h. ⊎_elim
+        (λ old. are.structs_known k m old)
+        (λ new. struct_placed t k s m (subst (λ n. slice_get t.structs n ≡ Some s) (sym new.0) at) (if_some (λ m. IsStructMeasure t s m) o m new.1 is))
+        (set_cases structs place o (Some m) k h);
+  }
 
 pub struct_measure_completed : (t : Types) (place : ℕ) (s : StructDef) (o : Option Measured) → complete_in (slice_get t.structs place) ≡ false → IfSome o (λ m. IsStructMeasure t s m) → IfSome o (λ m. IsStructMeasure (with_struct t place s) s m)
 struct_measure_completed t place s None n is = tt

@@ -1,22 +1,15 @@
--- What is noted of types: their extents, each with a depth within which the type has it.
+-- What is noted of types: their extents, each with a depth within which the type has it. This is the project's own
+-- note beside the layout of types, which stands in c_types with its sources; above it stands that what is found by it
+-- is that layout.
 use Rattle.std.specs.Prelude.{◌≡◌, ℕ, ◌-◌, ◌<◌, Bool, false, List, length, Option, Some, None, slice_get, slice_set}
 use Rattle.c_types.specs.declared.types.Ty.{Ty}
-use Rattle.c_types.specs.declared.types.Ty.TheVariants.{Void, Int, Ptr, Fun, Struct, Array}
+use Rattle.c_types.specs.declared.types.Ty.TheVariants.{Struct}
 use Rattle.c_types.specs.declared.types.FieldDef.{FieldDef}
 use Rattle.c_types.specs.declared.types.StructDef.{StructDef}
 use Rattle.c_types.specs.declared.types.Types.{Types}
-use Rattle.c_types.specs.declared.measure.Extent.{Extent}
-use Rattle.c_types.specs.Layout.{bytes_of, extent_within, extent_of, element_by, struct_by, fields_from, empty_struct, IsSmall}
+use Rattle.c_types.specs.declared.parts.Extent.{Extent}
+use Rattle.c_types.specs.Layout.{extent_within, extent_of, element_by, struct_by, fields_from, empty_struct, IsSmall}
 use Rattle.measured_types.specs.declared.measure.Measured.{Measured}
-
--- the extent of a type without parts
-abbrev pub leaf_of : Ty → Option Extent
-leaf_of Void = None
-leaf_of (Int i) = Some (record { size = bytes_of i; align = bytes_of i })
-leaf_of (Ptr k) = Some (record { size = 8; align = 8 })
-leaf_of (Fun k) = Some (record { size = 8; align = 8 })
-leaf_of (Struct k) = None
-leaf_of (Array k n) = None
 
 -- a type has this extent
 pub record IsExtent (t : Types) (ty : Ty) (e : Extent) : Type 0 where

@@ -5,8 +5,10 @@ ghost use Rattle.std.specs.Prelude.{◌≡◌, ◌+◌, max, IfSome, slice_get};
 ghost use Rattle.c_types.specs.Layout.{with_field, extent_of, IsSmall};
 ghost use Rattle.measured_types.specs.Measures.{IsMeasure, IsMeasureAt, IsFieldsMeasure, IsStructMeasure, AreMeasures, IsExtent};
 
-use crate::extents::{add_field, add_padding, depth, elements_extent, leaf_extent};
-use c_types::{Extent, FieldDef, StructDef, Ty, Types, layout};
+use c_types::{
+    Extent, FieldDef, StructDef, Ty, Types, add_field, add_padding, elements_extent, layout,
+    leaf_extent, nesting,
+};
 
 /// An extent, and how deep the parts of its type are nested at most; a type without parts has height 1.
 #[derive(Clone, Copy)]
@@ -107,7 +109,7 @@ fn known_extent(
     ensures { IfSome result (λ e. IsExtent types.now ty e) }
 {
     let measure = measure_of(types, elements, structs, ty)?;
-    if measure.height <= depth(types) {
+    if measure.height <= nesting(types) {
         Some(measure.extent)
     } else {
         None

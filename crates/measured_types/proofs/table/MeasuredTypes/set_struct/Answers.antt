@@ -1,5 +1,5 @@
 -- What is still known is right of the changed types, and so is the struct's own measure.
-use Rattle.std.proofs.Common.{Option, IfSome, refl, sym, ap, subst, ◌∙◌}
+use Rattle.std.proofs.Common.{IfSome, refl, sym, subst}
 use Rattle.c_types.specs.declared.types.Types.{Types}
 use Rattle.measured_types.specs.Measures.{AreMeasures, IsStructMeasure, with_struct}
 use Rattle.measured_types.proofs.MeasureLaws.{along, struct_measured}

@@ -1,12 +1,18 @@
-//! The steps of the layout: integers, a row of elements, and one more field of a struct.
-ghost use Rattle.std.specs.Prelude.{◌≡◌, ◌+◌, ◌*◌, ◌^◌, ◌<◌, ◌≤◌, IfSome};
-ghost use Rattle.c_types.specs.Layout.{bytes_of, rounded, below_limit, with_field, elements, whole, depth_of, IsSmall};
-ghost use Rattle.measured_types.specs.Measures.{leaf_of};
+//! The steps of the layout: a type without parts, a row of elements, and one more field of a struct.
+ghost use Rattle.std.specs.Prelude.{◌≡◌, ◌+◌, ◌*◌, ◌^◌, ◌<◌, ◌≤◌, Some, IfSome};
+ghost use Rattle.c_types.specs.Layout.{bytes_of, rounded, below_limit, leaf_of, with_field, elements, whole, depth_of, IsSmall};
 
-use c_types::{Extent, IntTy, Ty, Types};
+use crate::types::{IntTy, Ty, Types};
+
+/// The size and the alignment of a type in bytes.
+#[derive(Clone, Copy, Debug, PartialEq, Eq)]
+pub struct Extent {
+    pub size: u64,
+    pub align: u64,
+}
 
 /// Sizes stay below this.
-const LIMIT: u64 = 1 << 62;
+pub const LIMIT: u64 = 1 << 62;
 
 /// As many places as a `u32` can name.
 const PLACES: u64 = 1 << 32;
@@ -24,7 +30,8 @@ fn bytes(int: IntTy) -> u64
     }
 }
 
-/// The extent of a type without parts: integers and pointers stand at multiples of their sizes.
+/// The extent of a type without parts, which integers and pointers are: they stand at multiples of
+/// their sizes. None for any other type.
 pub fn leaf_extent(ty: Ty) -> Option<Extent>
     ensures value { result ≡ leaf_of ty }
     ensures small { IfSome result IsSmall }
@@ -40,7 +47,7 @@ pub fn leaf_extent(ty: Ty) -> Option<Extent>
 }
 
 /// Up to the next multiple of an alignment.
-fn round_up(place: u64, align: u64) -> u64
+pub fn round_up(place: u64, align: u64) -> u64
     requires low { 0 < align }
     requires high { align ≤ 8 }
     requires place_below { place < 2 ^ 62 }
@@ -50,7 +57,7 @@ fn round_up(place: u64, align: u64) -> u64
     (place + (align - 1)) / align * align
 }
 
-#[tactic(auto, unfolding(c_types::specs::Layout::below_limit))]
+#[tactic(auto, unfolding(crate::specs::Layout::below_limit))]
 fn within_limit(size: u64, align: u64) -> Option<Extent>
     requires low { 0 < align }
     requires high { align ≤ 8 }
@@ -64,7 +71,8 @@ fn within_limit(size: u64, align: u64) -> Option<Extent>
     }
 }
 
-/// The part of a struct up to a field's end.
+/// The part of a struct up to a field's end, behind the part up to the last one's; none where it
+/// reaches 2^62 bytes.
 pub fn add_field(so_far: Extent, field: Extent) -> Option<Extent>
     requires so_far_small { IsSmall so_far }
     requires field_small { IsSmall field }
@@ -75,7 +83,8 @@ pub fn add_field(so_far: Extent, field: Extent) -> Option<Extent>
     within_limit(place + field.size, so_far.align.max(field.align))
 }
 
-/// A struct whose fields end here: its size is a multiple of its alignment.
+/// A struct whose fields end here: its size is a multiple of its alignment; none where it reaches
+/// 2^62 bytes.
 pub fn add_padding(fields: Extent) -> Option<Extent>
     requires { IsSmall fields }
     ensures value { result ≡ whole fields }
@@ -84,8 +93,8 @@ pub fn add_padding(fields: Extent) -> Option<Extent>
     within_limit(round_up(fields.size, fields.align), fields.align)
 }
 
-/// A row of elements.
-#[tactic(auto, unfolding(c_types::specs::Layout::below_limit))]
+/// A row of elements; none where it reaches 2^62 bytes.
+#[tactic(auto, unfolding(crate::specs::Layout::below_limit))]
 pub fn elements_extent(count: u64, element: Extent) -> Option<Extent>
     requires { IsSmall element }
     ensures value { result ≡ elements count (Some element) }
@@ -98,7 +107,7 @@ pub fn elements_extent(count: u64, element: Extent) -> Option<Extent>
 }
 
 /// More than the types on a way from a type to a part of it, where no type is a part of itself.
-pub fn depth(types: &Types) -> u64
+pub fn nesting(types: &Types) -> u64
     ensures { result ≡ depth_of types.now }
 {
     let tys = (types.tys.len() as u64).min(PLACES);
