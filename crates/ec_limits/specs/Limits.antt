@@ -1,6 +1,6 @@
 -- The limits of a program: what is counted, and the number that a count may not pass. Both are this
 -- project's own.
-use Rattle.std.specs.Prelude.{ℕ, zero, suc, ◌+◌, min, max, nat_lt, if◌then◌else◌, sum_by, List, [], ◌∷◌, length, Option, Some, None}
+use Rattle.std.specs.Prelude.{ℕ, zero, suc, ◌+◌, min, max, nat_lt, if◌then◌else◌, sum_by, List, [], ◌∷◌, ◌++◌, length, Option, Some, None}
 use Rattle.c_types.specs.declared.types.Ty.TheVariants.{Struct}
 use Rattle.c_types.specs.declared.types.FunTy.{FunTy}
 use Rattle.c_types.specs.Layout.{size_of}
@@ -46,18 +46,26 @@ frame_bytes p = greatest_below (places (function_count p)) (frame_bytes_of p)
 abbrev pub global_bytes : Program → ℕ
 global_bytes p = sum_by (λ (g : GlobalDef). size_of p.types g.ty) p.globals
 
--- What is counted of a program, in order. The names are those of its units' texts, of which the longest
--- is given.
-abbrev pub counts : Program → ℕ → List Count
-counts p longest =
+-- What is counted of a program, in order: what it has so many of, then the bytes of its greatest struct, and then
+-- those of frames, of globals and of names. The names are those of its units' texts, of which the longest is given.
+abbrev pub amounts : Program → List Count
+amounts p =
     record { which = Nodes; most = 65536; count = program_nodes p } ∷
     record { which = Functions; most = 4096; count = function_count p } ∷
     record { which = Parameters; most = 64; count = parameter_count p } ∷
-    record { which = Extras; most = 256; count = p.extras } ∷
-    record { which = StructBytes; most = 65536; count = struct_bytes p } ∷
+    record { which = Extras; most = 256; count = p.extras } ∷ []
+
+abbrev pub of_structs : Program → Count
+of_structs p = record { which = StructBytes; most = 65536; count = struct_bytes p }
+
+abbrev pub rest : Program → ℕ → List Count
+rest p longest =
     record { which = FrameBytes; most = 524288; count = frame_bytes p } ∷
     record { which = GlobalBytes; most = 33554432; count = global_bytes p } ∷
     record { which = NameBytes; most = 255; count = longest } ∷ []
+
+abbrev pub counts : Program → ℕ → List Count
+counts p longest = amounts p ++ of_structs p ∷ rest p longest
 
 -- the first count that passes its number
 abbrev pub first_passed : List Count → Option Passed

@@ -1,15 +1,18 @@
-ghost use Rattle.std.specs.Prelude.{◌≡◌, length, map, sum_by};
+ghost use Rattle.std.specs.Prelude.{◌≡◌, ◌∷◌, length, map, sum_by, IfOk};
 ghost use Rattle.c_types.specs.Layout.{size_of};
 ghost use Rattle.c_types.specs.declared.types.FunTy.{FunTy};
 ghost use Rattle.c_types.specs.declared.types.Ty.TheVariants.{Struct};
 ghost use Rattle.c_program.specs.declared.program.GlobalDef.{GlobalDef};
 ghost use Rattle.c_program.specs.Nodes.{small};
-ghost use Rattle.ec_limits.specs.Limits.{greatest_by, greatest_below, places, function_count, frame_bytes, counts, told, passed};
+ghost use Rattle.type_sizes.specs.Known.{AreSizes};
+ghost use Rattle.ec_limits.specs.Limits.{greatest_by, greatest_below, places, function_count, frame_bytes, amounts, of_structs, rest, told, first_passed, passed};
 
 use crate::counts::{Count, Passed, first_passed};
 use c_program::{GlobalDef, Program, frame_bytes, nodes};
-use c_types::{FunTy, Ty, Types, size};
+use c_types::{FunTy, Ty, Types};
 use ec_report::LimitKind;
+use std::alloc::{AllocError, Global};
+use type_sizes::Sizes;
 
 /// As many places as a program can name.
 const PLACES: u64 = 1 << 32;
@@ -31,13 +34,14 @@ fn parameter_count(funs: &[FunTy]) -> u64
 }
 
 #[tactic(auto, using(crate::proofs::Greatest::below_laws))]
-fn struct_bytes(types: &Types) -> u64
+fn struct_bytes(types: &Types, sizes: &Sizes) -> u64
+    requires { AreSizes types.now sizes.now }
     ensures { result ≡ greatest_below (places (length types.now.structs)) (λ k. size_of types.now (Struct k)) }
 {
     let count = (types.structs.len() as u64).min(PLACES);
     let mut most = 0;
     for place in 0..count {
-        most = most.max(size(types, Ty::Struct(place as u32)));
+        most = most.max(sizes.size(types, Ty::Struct(place as u32)));
     }
     most
 }
@@ -54,21 +58,21 @@ fn greatest_frame(p: &Program) -> u64
     most
 }
 
-fn global_bytes(types: &Types, globals: &[GlobalDef]) -> u64
+fn global_bytes(types: &Types, sizes: &Sizes, globals: &[GlobalDef]) -> u64
+    requires { AreSizes types.now sizes.now }
     ensures { result ≡ small (sum_by (λ (g : GlobalDef). size_of types.now g.ty) globals.now) }
 {
     let mut total = 0;
     for global in globals {
-        total = size(types, global.ty).saturating_add(total);
+        total = sizes.size(types, global.ty).saturating_add(total);
     }
     total
 }
 
-/// What is counted of a program, in order.
-fn counts(p: &Program, longest_name: u64) -> [Count; 8]
-    ensures { result ≡ map told (counts p.now longest_name) }
+/// What is counted first, for which no type is measured.
+fn amounts(p: &Program) -> [Count; 4]
+    ensures { result ≡ map told (amounts p.now) }
 {
-    let globals = global_bytes(&p.types, p.globals.as_slice());
     [
         Count::new(LimitKind::Nodes, 65_536, nodes(p)),
         Count::new(LimitKind::Functions, 4_096, function_count(p)),
@@ -78,19 +82,66 @@ fn counts(p: &Program, longest_name: u64) -> [Count; 8]
             parameter_count(p.types.funs.as_slice()),
         ),
         Count::new(LimitKind::Extras, 256, u64::from(p.extras)),
-        Count::new(LimitKind::StructBytes, 65_536, struct_bytes(&p.types)),
+    ]
+}
+
+/// The bytes of the greatest struct, against what it may have.
+fn of_structs(p: &Program, sizes: &Sizes) -> Count
+    requires { AreSizes p.now.types sizes.now }
+    ensures { result ≡ told (of_structs p.now) }
+{
+    Count::new(
+        LimitKind::StructBytes,
+        65_536,
+        struct_bytes(&p.types, sizes),
+    )
+}
+
+/// What is counted last.
+fn rest(p: &Program, sizes: &Sizes, longest_name: u64) -> [Count; 3]
+    requires { AreSizes p.now.types sizes.now }
+    ensures { result ≡ map told (rest p.now longest_name) }
+{
+    let globals = global_bytes(&p.types, sizes, p.globals.as_slice());
+    [
         Count::new(LimitKind::FrameBytes, 524_288, greatest_frame(p)),
         Count::new(LimitKind::GlobalBytes, 33_554_432, globals),
         Count::new(LimitKind::NameBytes, 255, longest_name),
     ]
 }
 
+/// The first count behind the amounts that passes its number. Frames are measured only where no struct is
+/// too large.
+#[tactic(auto, using(crate::proofs::Telling::structs_found, crate::proofs::Telling::structs_none))]
+fn first_of_sizes(p: &Program, sizes: &Sizes, longest_name: u64) -> Option<Passed>
+    requires { AreSizes p.now.types sizes.now }
+    ensures { result ≡ first_passed (of_structs p.now ∷ rest p.now longest_name) }
+{
+    if let Some(passed) = first_passed(&[of_structs(p, sizes)]) {
+        return Some(passed);
+    }
+    first_passed(&rest(p, sizes, longest_name))
+}
+
 /// The first limit that a program passes, whose units' longest identifier has so many bytes: more than
 /// 65,536 nodes, 4,096 functions and adjustors, 64 parameters of a function's type, 256 extra arguments
 /// of a call, 65,536 bytes of a struct, 524,288 of a frame, 33,554,432 of all globals, or 255 of an
-/// identifier, in this order. It takes no memory.
-pub fn first_limit(p: &Program, longest_name: u64) -> Option<Passed>
-    ensures { result ≡ passed p.now longest_name }
+/// identifier, in this order.
+///
+/// # Errors
+///
+/// Want of memory, where the sizes of the types are noted.
+#[tactic(auto, using(crate::proofs::Telling::amounts_found, crate::proofs::Telling::amounts_none))]
+pub fn first_limit(
+    alloc: Global,
+    p: &Program,
+    longest_name: u64,
+) -> Result<Option<Passed>, AllocError>
+    ensures { IfOk result (λ limit. limit ≡ passed p.now longest_name) }
 {
-    first_passed(&counts(p, longest_name))
+    if let Some(passed) = first_passed(&amounts(p)) {
+        return Ok(Some(passed));
+    }
+    let sizes = Sizes::of(alloc, &p.types)?;
+    Ok(first_of_sizes(p, &sizes, longest_name))
 }

@@ -12,7 +12,7 @@ use c_program::Program;
 use ec_limits::first_limit;
 use ec_report::{LimitKind, UnitRefusal};
 use hx_io::Store;
-use std::alloc::Global;
+use std::alloc::{AllocError, Global};
 
 /// The most units of a command.
 const MOST_UNITS: usize = 64;
@@ -52,9 +52,10 @@ fn judge(alloc: Global, loaded: Loaded, whole: bool) -> Result<Checked, UnitsRef
         Ok(program) => program,
         Err(refusal) => return Err(of_types(refusal)),
     };
-    match first_limit(&program, longest_name) {
-        Some(limit) => Err(UnitsRefusal::Limit(limit.which, limit.count)),
-        None => Ok(Checked { program, sources }),
+    match first_limit(alloc, &program, longest_name) {
+        Ok(Some(limit)) => Err(UnitsRefusal::Limit(limit.which, limit.count)),
+        Ok(None) => Ok(Checked { program, sources }),
+        Err(AllocError) => Err(UnitsRefusal::NoMemory),
     }
 }
 

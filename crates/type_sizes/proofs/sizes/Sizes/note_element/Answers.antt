@@ -1,0 +1,9 @@
+-- One more type is known, or still is not.
+use Rattle.std.proofs.Common.{refl, sym}
+use Rattle.measured_types.proofs.MeasureLaws.{along, element_noted}
+use Rattle.type_sizes.proofs.sizes.Sizes.note_element.Goals as goal
+
+pub returns-in-Some : goal.returns-in-Some
+returns-in-Some c =
+    along _ _ _ _ _ _ refl (sym c.put_at.ensures) refl
+    (element_noted c.args.types.now c.args.self.now.elements.items c.args.self.now.structs.items c.args.place c.in-Some.ty.now c.measure_of-measure.result (sym c.in-Some.ensures.value) c.requires c.measure_of-measure.ensures)
