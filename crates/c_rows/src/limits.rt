@@ -89,18 +89,27 @@ fn program(alloc: Global, sizes: Sizes) -> Result<Program, AllocError> {
     })
 }
 
+fn limit_found<R: Abort + AllocGlobal>(
+    rt: &R,
+    program: &Program,
+    longest_name: u64,
+    wanted: Option<(LimitKind, u64)>,
+) -> Result<(), Fail> {
+    let wanted = match wanted {
+        Some((which, count)) => Some(Passed { which, count }),
+        None => None,
+    };
+    assert_eq!(rt; first_limit(rt.alloc(), program, longest_name)?, wanted);
+    Ok(())
+}
+
 fn limits<R: Abort + AllocGlobal>(
     rt: &R,
     sizes: Sizes,
     wanted: Option<(LimitKind, u64)>,
 ) -> Result<(), Fail> {
     let program = program(rt.alloc(), sizes)?;
-    let wanted = match wanted {
-        Some((which, count)) => Some(Passed { which, count }),
-        None => None,
-    };
-    assert_eq!(rt; first_limit(&program, sizes.longest_name), wanted);
-    Ok(())
+    limit_found(rt, &program, sizes.longest_name, wanted)
 }
 
 #[test]

@@ -1,6 +1,6 @@
 //! Sizes of types that a table looks up, against what C says of them.
 
-use c_types::{Extent, FieldDef, IntTy, StructDef, Ty};
+use c_types::{Extent, FieldDef, FunTy, IntTy, StructDef, Ty};
 use hx_words::Items;
 use measured_types::MeasuredTypes;
 use std::alloc::{AllocError, Global};
@@ -57,6 +57,14 @@ fn structure(alloc: Global, types: &[Ty], complete: bool) -> Result<StructDef, A
         tag: Items::new(alloc),
         fields,
         complete,
+    })
+}
+
+fn function(alloc: Global, params: &[Ty]) -> Result<FunTy, AllocError> {
+    Ok(FunTy {
+        result: Ty::Void,
+        params: Items::from_slice(alloc, params)?,
+        variadic: false,
     })
 }
 
@@ -122,5 +130,25 @@ fn changes_sized(rt: &(impl Abort + AllocGlobal), types: &mut MeasuredTypes) -> 
 #[test]
 fn sizes_of_a_struct_that_changes(rt: HostRuntime) -> Result<(), Fail> {
     let mut types = MeasuredTypes::new(rt.alloc());
-    changes_sized(&rt, &mut types)
+    changes_sized(&rt, &mut types)?;
+    assert_eq!(rt; types.into_types().tys.len(), 3);
+    Ok(())
+}
+
+fn functions_found(rt: &(impl Abort + AllocGlobal), types: &mut MeasuredTypes) -> Result<(), Fail> {
+    types.push_fun(function(rt.alloc(), &[INT])?)?;
+    types.push_fun(function(rt.alloc(), &[INT, CHAR])?)?;
+    types.push_fun(function(rt.alloc(), &[INT])?)?;
+    let f = function(rt.alloc(), &[INT, CHAR])?;
+    assert_eq!(rt; types.find_fun(&f)?, Some(1));
+    let f = function(rt.alloc(), &[CHAR])?;
+    assert_eq!(rt; types.find_fun(&f)?, None);
+    assert_eq!(rt; types.size(Ty::Fun(2)), 8);
+    Ok(())
+}
+
+#[test]
+fn function_types_beside_sizes(rt: HostRuntime) -> Result<(), Fail> {
+    let mut types = MeasuredTypes::new(rt.alloc());
+    functions_found(&rt, &mut types)
 }

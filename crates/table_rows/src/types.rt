@@ -43,7 +43,9 @@ fn types_found(rt: &(impl Abort + AllocGlobal), table: &mut TypeTable) -> Result
 #[test]
 fn first_of_a_type(rt: HostRuntime) -> Result<(), Fail> {
     let mut table = TypeTable::new(rt.alloc());
-    types_found(&rt, &mut table)
+    types_found(&rt, &mut table)?;
+    assert_eq!(rt; table.into_types().tys.len(), 8);
+    Ok(())
 }
 
 fn function(alloc: Global, params: &[Ty], variadic: bool) -> Result<FunTy, AllocError> {
