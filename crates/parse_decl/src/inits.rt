@@ -75,6 +75,15 @@ pub struct InitState {
     pub frames: Stack<InitFrame>,
 }
 
+impl InitState {
+    /// Something else comes next. What came before is dropped by a call, whose proof is shared.
+    fn go_to(&mut self, focus: InitFocus)
+        ensures { self.new ≡ record self.old { focus = focus } }
+    {
+        drop(mem::replace(&mut self.focus, focus));
+    }
+}
+
 fn make_leaf(alloc: Global, init: Init) -> Result<InitPart, AllocError>
     ensures { IfOk result (λ r. r ≡ init_leaf init) }
 {
@@ -186,7 +195,7 @@ fn with_value(
         }
         _ => return Ok(Verdict::Bad),
     };
-    state.focus = focus;
+    state.go_to(focus);
     Ok(Verdict::More)
 }
 
@@ -196,7 +205,8 @@ fn with_brace(alloc: Global, state: &mut InitState) -> Result<Verdict<InitPart>,
 {
     match state.frames.pop() {
         Some(frame) => {
-            state.focus = InitFocus::Whole(make_list(alloc, frame.brace, frame.parts)?);
+            let part = make_list(alloc, frame.brace, frame.parts)?;
+            state.go_to(InitFocus::Whole(part));
             Ok(Verdict::More)
         }
         None => Ok(Verdict::Bad),
@@ -231,7 +241,8 @@ fn with_negated(
                 ty: *ty,
                 span: token.span,
             };
-            state.focus = InitFocus::Whole(make_leaf(alloc, Init::Number(Some(minus), literal))?);
+            let part = make_leaf(alloc, Init::Number(Some(minus), literal))?;
+            state.go_to(InitFocus::Whole(part));
             Ok(Verdict::More)
         }
         _ => Ok(Verdict::Bad),
@@ -248,7 +259,8 @@ fn with_addressed(
 {
     match &token.sort {
         Sort::Name(text) => {
-            state.focus = named(alloc, text, token.span, Some(ampersand))?;
+            let focus = named(alloc, text, token.span, Some(ampersand))?;
+            state.go_to(focus);
             Ok(Verdict::More)
         }
         _ => Ok(Verdict::Bad),
@@ -269,12 +281,13 @@ fn within(
         Mark::Comma => {
             let parts = add(frame.parts, part)?;
             state.frames.push(InitFrame { brace, parts })?;
-            state.focus = InitFocus::Next;
+            state.go_to(InitFocus::Next);
             Ok(Verdict::More)
         }
         Mark::CloseBrace => {
             let parts = add(frame.parts, part)?;
-            state.focus = InitFocus::Whole(make_list(alloc, brace, parts)?);
+            let part = make_list(alloc, brace, parts)?;
+            state.go_to(InitFocus::Whole(part));
             Ok(Verdict::More)
         }
         _ => Ok(Verdict::Bad),
@@ -308,8 +321,8 @@ fn with_stepping(
     ensures { IfOk result (λ r. InitSays r (stepping_step 256 token.now.sort token.now.span address state.old.frames) state.new) }
 {
     match &token.sort {
-        Sort::Mark(Mark::Dot) => state.focus = InitFocus::Dot(address, token.span),
-        Sort::Mark(Mark::OpenBracket) => state.focus = InitFocus::Bracket(address, token.span),
+        Sort::Mark(Mark::Dot) => state.go_to(InitFocus::Dot(address, token.span)),
+        Sort::Mark(Mark::OpenBracket) => state.go_to(InitFocus::Bracket(address, token.span)),
         _ => {
             let part = address_leaf(alloc, address)?;
             return with_whole(alloc, token, part, state);
@@ -330,7 +343,8 @@ fn with_dot(
     match &token.sort {
         Sort::Name(text) => {
             let name = copy_name(alloc, text, token.span)?;
-            state.focus = InitFocus::Stepping(extended(address, Step::Field(dot, name))?);
+            let address = extended(address, Step::Field(dot, name))?;
+            state.go_to(InitFocus::Stepping(address));
             Ok(Verdict::More)
         }
         _ => Ok(Verdict::Bad),
@@ -352,7 +366,8 @@ fn with_bracket(
                 ty: *ty,
                 span: token.span,
             };
-            state.focus = InitFocus::Closing(extended(address, Step::Index(bracket, literal))?);
+            let address = extended(address, Step::Index(bracket, literal))?;
+            state.go_to(InitFocus::Closing(address));
             Ok(Verdict::More)
         }
         _ => Ok(Verdict::Bad),
@@ -364,7 +379,7 @@ fn with_closing(token: &Terminal, address: Address, state: &mut InitState) -> Ve
 {
     match &token.sort {
         Sort::Mark(Mark::CloseBracket) => {
-            state.focus = InitFocus::Stepping(address);
+            state.go_to(InitFocus::Stepping(address));
             Verdict::More
         }
         _ => Verdict::Bad,

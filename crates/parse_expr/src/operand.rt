@@ -19,7 +19,8 @@ use std::alloc::{AllocError, Global};
 fn operated(alloc: Global, e: Expr, state: &mut ExprState) -> Result<Verdict<Part>, AllocError>
     ensures { IfOk result (λ r. Says r (to state.old.effect (Operated (leaf e)) state.old.frames) state.new) }
 {
-    state.focus = Focus::Operated(make_leaf(alloc, e)?);
+    let part = make_leaf(alloc, e)?;
+    state.go_to(Focus::Operated(part));
     Ok(Verdict::More)
 }
 
@@ -31,10 +32,10 @@ fn with_opener(
     ensures { IfOk result (λ r. Says r (opened opener span state.old.effect state.old.frames) state.new) }
 {
     match opener {
-        Opener::OpenParen => state.focus = Focus::Parened(span),
+        Opener::OpenParen => state.go_to(Focus::Parened(span)),
         Opener::Prefix(operator) => {
             state.frames.push(Frame::Prefix(operator, span))?;
-            state.focus = Focus::Operand;
+            state.go_to(Focus::Operand);
         }
         Opener::CloseParen | Opener::Nothing => return Ok(Verdict::Bad),
     }
@@ -45,8 +46,8 @@ fn with_word(word: Word, span: Span, state: &mut ExprState) -> Verdict<Part>
     ensures { Says result (word_operand word span state.old.effect state.old.frames) state.new }
 {
     match word {
-        Word::Sizeof => state.focus = Focus::SizeOpen(span),
-        Word::VaArg => state.focus = Focus::VaOpen(span),
+        Word::Sizeof => state.go_to(Focus::SizeOpen(span)),
+        Word::VaArg => state.go_to(Focus::VaOpen(span)),
         _ => return Verdict::Bad,
     }
     Verdict::More
@@ -92,7 +93,7 @@ pub fn with_parened(
 {
     if let Sort::Word(word) = &token.sort {
         if let Some(words) = begin_int(*word) {
-            state.focus = Focus::CastWords(paren, token.span, words);
+            state.go_to(Focus::CastWords(paren, token.span, words));
             return Ok(Verdict::More);
         }
     }
@@ -113,7 +114,7 @@ pub fn with_cast(
     match &token.sort {
         Sort::Word(word) => {
             if let Some(more) = step_int(*word, words) {
-                state.focus = Focus::CastWords(paren, first, more);
+                state.go_to(Focus::CastWords(paren, first, more));
                 return Ok(Verdict::More);
             }
         }
@@ -121,7 +122,7 @@ pub fn with_cast(
             if as_opener(*mark) == Opener::CloseParen {
                 if let Some(ty) = finish_int(words) {
                     state.frames.push(Frame::Casting(paren, ty, first))?;
-                    state.focus = Focus::Operand;
+                    state.go_to(Focus::Operand);
                     return Ok(Verdict::More);
                 }
             }
@@ -144,7 +145,7 @@ pub fn with_argument(
     if let Sort::Mark(mark) = &token.sort {
         if as_opener(*mark) == Opener::CloseParen {
             let called = call(alloc, function, paren, empty_parts(alloc))?;
-            state.focus = Focus::Operated(called);
+            state.go_to(Focus::Operated(called));
             return Ok(Verdict::More);
         }
     }
@@ -168,7 +169,8 @@ pub fn with_selected(
         return Ok(Verdict::Bad);
     };
     let name = copy_name(alloc, text, token.span)?;
-    state.focus = Focus::Operated(select(alloc, part, selector, at, name)?);
+    let part = select(alloc, part, selector, at, name)?;
+    state.go_to(Focus::Operated(part));
     Ok(Verdict::More)
 }
 
@@ -178,10 +180,11 @@ pub fn with_paren(token: &Terminal, focus: Focus, state: &mut ExprState) -> Verd
 {
     if let Sort::Mark(mark) = &token.sort {
         if as_opener(*mark) == Opener::OpenParen {
-            state.focus = focus;
+            state.go_to(focus);
             return Verdict::More;
         }
     }
+    drop(focus);
     Verdict::Bad
 }
 
@@ -191,10 +194,11 @@ fn with_ending(token: &Terminal, focus: Focus, state: &mut ExprState) -> Verdict
 {
     if let Sort::Mark(mark) = &token.sort {
         if as_opener(*mark) == Opener::CloseParen {
-            state.focus = focus;
+            state.go_to(focus);
             return Verdict::More;
         }
     }
+    drop(focus);
     Verdict::Bad
 }
 
@@ -210,7 +214,7 @@ pub fn with_size_type(
 {
     match step_type(alloc, token, so_far)? {
         Answer::More(so_far) => {
-            state.focus = Focus::SizeType(at, so_far);
+            state.go_to(Focus::SizeType(at, so_far));
             Ok(Verdict::More)
         }
         Answer::Done(ty) => {
@@ -233,7 +237,8 @@ pub fn with_va_name(
     let Sort::Name(text) = &token.sort else {
         return Ok(Verdict::Bad);
     };
-    state.focus = Focus::VaComma(at, copy_name(alloc, text, token.span)?);
+    let name = copy_name(alloc, text, token.span)?;
+    state.go_to(Focus::VaComma(at, name));
     Ok(Verdict::More)
 }
 
@@ -242,7 +247,7 @@ pub fn with_va_comma(token: &Terminal, at: Span, name: Name, state: &mut ExprSta
     ensures { Says result (va_comma_step token.now.sort at name state.old.effect state.old.frames) state.new }
 {
     if let Sort::Mark(Mark::Comma) = &token.sort {
-        state.focus = Focus::VaType(at, name, TypeState::Opening);
+        state.go_to(Focus::VaType(at, name, TypeState::Opening));
         Verdict::More
     } else {
         Verdict::Bad
@@ -262,7 +267,7 @@ pub fn with_va_type(
 {
     match step_type(alloc, token, so_far)? {
         Answer::More(so_far) => {
-            state.focus = Focus::VaType(at, name, so_far);
+            state.go_to(Focus::VaType(at, name, so_far));
             Ok(Verdict::More)
         }
         Answer::Done(ty) => {

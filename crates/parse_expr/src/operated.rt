@@ -139,7 +139,7 @@ fn with_left(
     let left = reduce_in(alloc, level_of(operator), part, state)?;
     if frees(state.effect, &mut state.frames)? {
         state.frames.push(Frame::Left(operator, at, left))?;
-        state.focus = Focus::Operand;
+        state.go_to(Focus::Operand);
         Ok(Verdict::More)
     } else {
         Ok(Verdict::Bad)
@@ -157,7 +157,7 @@ fn with_question(
     let test = reduce_in(alloc, 1, part, state)?;
     if frees(state.effect, &mut state.frames)? {
         state.frames.push(Frame::Asking(test, at))?;
-        state.focus = Focus::Operand;
+        state.go_to(Focus::Operand);
         Ok(Verdict::More)
     } else {
         Ok(Verdict::Bad)
@@ -176,7 +176,7 @@ fn with_assign(
     let left = reduce_in(alloc, 11, part, state)?;
     if assignable(&mut state.frames)? {
         state.frames.push(Frame::Assigning(operator, at, left))?;
-        state.focus = Focus::Operand;
+        state.go_to(Focus::Operand);
         Ok(Verdict::More)
     } else {
         Ok(Verdict::Bad)
@@ -206,9 +206,12 @@ fn with_close(alloc: Global, part: Part, state: &mut ExprState) -> Result<Verdic
         Frame::Calling(function, at, arguments) => {
             call(alloc, function, at, add(arguments, whole)?)?
         }
-        _other => return Ok(Verdict::Bad),
+        other => {
+            drop(other);
+            return Ok(Verdict::Bad);
+        }
     };
-    state.focus = Focus::Operated(closed);
+    state.go_to(Focus::Operated(closed));
     Ok(Verdict::More)
 }
 
@@ -222,10 +225,14 @@ fn with_bracket(
     let whole = reduce_in(alloc, 0, part, state)?;
     match state.frames.pop() {
         Some(Frame::Indexing(array, at)) => {
-            state.focus = Focus::Operated(subscript(alloc, array, at, whole)?);
+            let part = subscript(alloc, array, at, whole)?;
+            state.go_to(Focus::Operated(part));
             Ok(Verdict::More)
         }
-        _other => Ok(Verdict::Bad),
+        other => {
+            drop(other);
+            Ok(Verdict::Bad)
+        }
     }
 }
 
@@ -236,10 +243,13 @@ fn with_colon(alloc: Global, part: Part, state: &mut ExprState) -> Result<Verdic
     match state.frames.pop() {
         Some(Frame::Asking(test, at)) => {
             state.frames.push(Frame::Choosing(test, at, whole))?;
-            state.focus = Focus::Operand;
+            state.go_to(Focus::Operand);
             Ok(Verdict::More)
         }
-        _other => Ok(Verdict::Bad),
+        other => {
+            drop(other);
+            Ok(Verdict::Bad)
+        }
     }
 }
 
@@ -254,10 +264,13 @@ fn with_comma(alloc: Global, part: Part, state: &mut ExprState) -> Result<Verdic
         Frame::Calling(function, at, arguments) => {
             let more = add(arguments, whole)?;
             state.frames.push(Frame::Calling(function, at, more))?;
-            state.focus = Focus::Operand;
+            state.go_to(Focus::Operand);
             Ok(Verdict::More)
         }
-        _other => Ok(Verdict::Bad),
+        other => {
+            drop(other);
+            Ok(Verdict::Bad)
+        }
     }
 }
 
@@ -270,7 +283,10 @@ fn with_semicolon(
 {
     let whole = reduce_in(alloc, 0, part, state)?;
     match state.frames.pop() {
-        Some(_frame) => Ok(Verdict::Bad),
+        Some(frame) => {
+            drop(frame);
+            Ok(Verdict::Bad)
+        }
         None => Ok(finished(state.effect, whole)),
     }
 }
@@ -285,14 +301,20 @@ fn with_follower(
     ensures { IfOk result (λ r. Says r (followed 256 follower at part state.old.effect state.old.frames) state.new) }
 {
     match follower {
-        Follower::OpenParen => state.focus = Focus::Argument(part, at),
+        Follower::OpenParen => state.go_to(Focus::Argument(part, at)),
         Follower::OpenBracket => {
             state.frames.push(Frame::Indexing(part, at))?;
-            state.focus = Focus::Operand;
+            state.go_to(Focus::Operand);
         }
-        Follower::Increment => state.focus = Focus::Operated(increment(alloc, part, at)?),
-        Follower::Decrement => state.focus = Focus::Operated(decrement(alloc, part, at)?),
-        Follower::Select(selector) => state.focus = Focus::Selecting(part, selector, at),
+        Follower::Increment => {
+            let part = increment(alloc, part, at)?;
+            state.go_to(Focus::Operated(part));
+        }
+        Follower::Decrement => {
+            let part = decrement(alloc, part, at)?;
+            state.go_to(Focus::Operated(part));
+        }
+        Follower::Select(selector) => state.go_to(Focus::Selecting(part, selector, at)),
         Follower::Question => return with_question(alloc, at, part, state),
         Follower::Assign(operator) => return with_assign(alloc, operator, at, part, state),
         Follower::Binary(operator) => return with_left(alloc, operator, at, part, state),

@@ -1,7 +1,10 @@
+ghost use Rattle.std.specs.Prelude.{◌≡◌};
+
 use crate::parts::{Part, Parts};
 use c_tree::{AssignOp, BinaryOp, Name, Selector, UnaryOp};
 use c_types::{IntTy, Span};
 use parse_terms::{IntWords, Stack, TypeState};
+use std::mem;
 
 /// What waits for the expression that is being read.
 #[derive(Drop)]
@@ -58,4 +61,13 @@ pub struct ExprState {
     pub effect: bool,
     pub focus: Focus,
     pub frames: Stack<Frame>,
+}
+
+impl ExprState {
+    /// Something else comes next. What came before is dropped by a call, whose proof is shared.
+    pub fn go_to(&mut self, focus: Focus)
+        ensures { self.new ≡ record self.old { focus = focus } }
+    {
+        drop(mem::replace(&mut self.focus, focus));
+    }
 }

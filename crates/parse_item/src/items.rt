@@ -274,9 +274,6 @@ fn with_head(alloc: Global, token: &Terminal, head: FunctionHead) -> ItemAnswer
     }
 }
 
-/// The end of a state that is spent.
-fn discard(_state: BodyState) {}
-
 /// A verdict on a body, with the state that comes of it, as an answer.
 fn answer_of(
     verdict: Result<Verdict<Body>, AllocError>,
@@ -287,15 +284,15 @@ fn answer_of(
     match verdict {
         Ok(Verdict::More) => Ok(Answer::More(state)),
         Ok(Verdict::Done(body)) => {
-            discard(state);
+            drop(state);
             Ok(Answer::Done(body))
         }
         Ok(Verdict::Bad) => {
-            discard(state);
+            drop(state);
             Ok(Answer::Bad)
         }
         Err(AllocError) => {
-            discard(state);
+            drop(state);
             Err(AllocError)
         }
     }

@@ -18,7 +18,7 @@ use std::mem;
 pub fn go(focus: Focus, state: &mut BodyState) -> Verdict<Body>
     ensures { Says result (to focus state.old) state.new }
 {
-    state.focus = focus;
+    state.go_to(focus);
     Verdict::More
 }
 
@@ -61,7 +61,7 @@ pub fn as_effect_hole(place: LocalPlace) -> Hole
 pub fn begin_hole(alloc: Global, hole: Hole, state: &mut BodyState) -> Verdict<Body>
     ensures { Says result (begin hole state.old) state.new }
 {
-    state.expr = begin_expr(alloc, is_hole_effect(&hole));
+    state.take_expr(begin_expr(alloc, is_hole_effect(&hole)));
     go(Focus::Expr(hole), state)
 }
 
@@ -114,7 +114,10 @@ pub fn with_slot_close(
             Frame::For(at, make_head(start, test, part)),
             state,
         ),
-        _other => Ok(Verdict::Bad),
+        other => {
+            drop(other);
+            Ok(Verdict::Bad)
+        }
     }
 }
 
@@ -152,7 +155,10 @@ fn with_close(
             Ok(go(Focus::Semicolon(x), state))
         }
         Hole::Slot(slot) => with_slot_close(slot, present(part), state),
-        _other => Ok(Verdict::Bad),
+        other => {
+            drop(other);
+            Ok(Verdict::Bad)
+        }
     }
 }
 
@@ -174,7 +180,10 @@ fn with_semicolon(
             finish_locals(place, base, decls, state)
         }
         Hole::Slot(slot) => with_slot_semicolon(alloc, slot, present(part), state),
-        _other => Ok(Verdict::Bad),
+        other => {
+            drop(other);
+            Ok(Verdict::Bad)
+        }
     }
 }
 
@@ -191,7 +200,10 @@ fn with_comma(
             let decls = add_decl(decls, decl, present(part))?;
             Ok(begin_decl(alloc, place, base, decls, state))
         }
-        _other => Ok(Verdict::Bad),
+        other => {
+            drop(other);
+            Ok(Verdict::Bad)
+        }
     }
 }
 
@@ -209,7 +221,10 @@ fn with_hole(
         Sort::Mark(Mark::CloseParen) => with_close(alloc, hole, part, state),
         Sort::Mark(Mark::Semicolon) => with_semicolon(alloc, hole, part, state),
         Sort::Mark(Mark::Comma) => with_comma(alloc, hole, part, state),
-        _ => Ok(Verdict::Bad),
+        _ => {
+            drop(hole);
+            Ok(Verdict::Bad)
+        }
     }
 }
 
@@ -222,13 +237,20 @@ pub fn with_expr(
 ) -> Result<Verdict<Body>, AllocError>
     ensures { IfOk result (λ r. Says r (expr_at 256 token.now hole state.old) state.new) }
 {
-    match step_expr(alloc, token, &mut state.expr)? {
-        Verdict::More => Ok(go(Focus::Expr(hole), state)),
-        Verdict::Done(part) => {
-            state.expr = begin_expr(alloc, false);
+    match step_expr(alloc, token, &mut state.expr) {
+        Ok(Verdict::More) => Ok(go(Focus::Expr(hole), state)),
+        Ok(Verdict::Done(part)) => {
+            state.take_expr(begin_expr(alloc, false));
             with_hole(alloc, token, hole, as_capped(part), state)
         }
-        Verdict::Bad => Ok(Verdict::Bad),
+        Ok(Verdict::Bad) => {
+            drop(hole);
+            Ok(Verdict::Bad)
+        }
+        Err(AllocError) => {
+            drop(hole);
+            Err(AllocError)
+        }
     }
 }
 
@@ -241,6 +263,6 @@ pub fn with_first(
 ) -> Result<Verdict<Body>, AllocError>
     ensures { IfOk result (λ r. Says r (feed 256 token.now hole state.old) state.new) }
 {
-    state.expr = begin_expr(alloc, is_hole_effect(&hole));
+    state.take_expr(begin_expr(alloc, is_hole_effect(&hole)));
     with_expr(alloc, token, hole, state)
 }

@@ -161,7 +161,7 @@ pub fn with_bare(
     match &token.sort {
         Sort::Name(_) | Sort::Mark(Mark::Star) => with_typedef(alloc, token, place, name, state),
         _ => {
-            state.expr = begin_named(alloc, name)?;
+            state.take_expr(begin_named(alloc, name)?);
             with_expr(alloc, token, as_effect_hole(place), state)
         }
     }

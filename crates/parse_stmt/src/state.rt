@@ -7,6 +7,7 @@ use c_types::Span;
 use parse_expr::{ExprState, Focus as ExprFocus};
 use parse_terms::{DeclState, Stack, TypeState};
 use std::alloc::Global;
+use std::mem;
 
 /// Where locals are declared.
 #[derive(Clone, Copy, Debug, PartialEq, Eq)]
@@ -118,6 +119,22 @@ pub struct BodyState {
     /// What the innermost block holds so far.
     pub done: Body,
     pub frames: Stack<Frame>,
+}
+
+impl BodyState {
+    /// Something else comes next. What came before is dropped by a call, whose proof is shared.
+    pub fn go_to(&mut self, focus: Focus)
+        ensures { self.new ≡ record self.old { focus = focus } }
+    {
+        drop(mem::replace(&mut self.focus, focus));
+    }
+
+    /// Another expression is at hand. The last one is dropped by a call, too.
+    pub fn take_expr(&mut self, expr: ExprState)
+        ensures { self.new ≡ record self.old { expr = expr } }
+    {
+        drop(mem::replace(&mut self.expr, expr));
+    }
 }
 
 /// An expression that hasn't begun.

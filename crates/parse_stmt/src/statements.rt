@@ -87,7 +87,10 @@ fn with_end(alloc: Global, state: &mut BodyState) -> Result<Verdict<Body>, Alloc
             let x = make_block(alloc, at, items)?;
             Ok(go(Focus::Ended(x), state))
         }
-        Some(_other) => Ok(Verdict::Bad),
+        Some(other) => {
+            drop(other);
+            Ok(Verdict::Bad)
+        }
     }
 }
 
@@ -170,7 +173,10 @@ fn with_else(x: StmtPart, state: &mut BodyState) -> Result<Verdict<Body>, AllocE
 {
     match state.frames.pop() {
         Some(Frame::Then(at, test)) => go_under(Frame::Else(at, test, x), state),
-        _other => Ok(Verdict::Bad),
+        other => {
+            drop(other);
+            Ok(Verdict::Bad)
+        }
     }
 }
 

@@ -42,7 +42,10 @@ fn with_paren(
 {
     match &token.sort {
         Sort::Mark(Mark::OpenParen) => with_opened(alloc, header, state),
-        _ => Verdict::Bad,
+        _ => {
+            drop(header);
+            Verdict::Bad
+        }
     }
 }
 
@@ -52,7 +55,10 @@ fn with_semicolon(token: &Terminal, focus: Focus, state: &mut BodyState) -> Verd
 {
     match &token.sort {
         Sort::Mark(Mark::Semicolon) => go(focus, state),
-        _ => Verdict::Bad,
+        _ => {
+            drop(focus);
+            Verdict::Bad
+        }
     }
 }
 
@@ -62,7 +68,10 @@ fn with_close(token: &Terminal, focus: Focus, state: &mut BodyState) -> Verdict<
 {
     match &token.sort {
         Sort::Mark(Mark::CloseParen) => go(focus, state),
-        _ => Verdict::Bad,
+        _ => {
+            drop(focus);
+            Verdict::Bad
+        }
     }
 }
 
@@ -72,7 +81,10 @@ fn with_comma(token: &Terminal, focus: Focus, state: &mut BodyState) -> Verdict<
 {
     match &token.sort {
         Sort::Mark(Mark::Comma) => go(focus, state),
-        _ => Verdict::Bad,
+        _ => {
+            drop(focus);
+            Verdict::Bad
+        }
     }
 }
 

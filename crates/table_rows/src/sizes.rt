@@ -82,7 +82,9 @@ fn arrays_sized(rt: &(impl Abort + AllocGlobal), types: &mut MeasuredTypes) -> R
 #[test]
 fn sizes_of_arrays(rt: HostRuntime) -> Result<(), Fail> {
     let mut types = MeasuredTypes::new(rt.alloc());
-    arrays_sized(&rt, &mut types)
+    let sized = arrays_sized(&rt, &mut types);
+    drop(types);
+    sized
 }
 
 fn doubles_sized(rt: &(impl Abort + AllocGlobal), types: &mut MeasuredTypes) -> Result<(), Fail> {
@@ -105,7 +107,9 @@ fn doubles_sized(rt: &(impl Abort + AllocGlobal), types: &mut MeasuredTypes) -> 
 #[test]
 fn sizes_that_double(rt: HostRuntime) -> Result<(), Fail> {
     let mut types = MeasuredTypes::new(rt.alloc());
-    doubles_sized(&rt, &mut types)
+    let sized = doubles_sized(&rt, &mut types);
+    drop(types);
+    sized
 }
 
 fn changes_sized(rt: &(impl Abort + AllocGlobal), types: &mut MeasuredTypes) -> Result<(), Fail> {
@@ -130,9 +134,9 @@ fn changes_sized(rt: &(impl Abort + AllocGlobal), types: &mut MeasuredTypes) -> 
 #[test]
 fn sizes_of_a_struct_that_changes(rt: HostRuntime) -> Result<(), Fail> {
     let mut types = MeasuredTypes::new(rt.alloc());
-    changes_sized(&rt, &mut types)?;
+    let sized = changes_sized(&rt, &mut types);
     assert_eq!(rt; types.into_types().tys.len(), 3);
-    Ok(())
+    sized
 }
 
 fn functions_found(rt: &(impl Abort + AllocGlobal), types: &mut MeasuredTypes) -> Result<(), Fail> {
@@ -150,5 +154,7 @@ fn functions_found(rt: &(impl Abort + AllocGlobal), types: &mut MeasuredTypes) -
 #[test]
 fn function_types_beside_sizes(rt: HostRuntime) -> Result<(), Fail> {
     let mut types = MeasuredTypes::new(rt.alloc());
-    functions_found(&rt, &mut types)
+    let sized = functions_found(&rt, &mut types);
+    drop(types);
+    sized
 }

@@ -43,9 +43,9 @@ fn types_found(rt: &(impl Abort + AllocGlobal), table: &mut TypeTable) -> Result
 #[test]
 fn first_of_a_type(rt: HostRuntime) -> Result<(), Fail> {
     let mut table = TypeTable::new(rt.alloc());
-    types_found(&rt, &mut table)?;
+    let found = types_found(&rt, &mut table);
     assert_eq!(rt; table.into_types().tys.len(), 8);
-    Ok(())
+    found
 }
 
 fn function(alloc: Global, params: &[Ty], variadic: bool) -> Result<FunTy, AllocError> {
@@ -80,7 +80,9 @@ fn functions_found(rt: &(impl Abort + AllocGlobal), table: &mut TypeTable) -> Re
 #[test]
 fn first_of_a_function_type(rt: HostRuntime) -> Result<(), Fail> {
     let mut table = TypeTable::new(rt.alloc());
-    functions_found(&rt, &mut table)
+    let found = functions_found(&rt, &mut table);
+    drop(table);
+    found
 }
 
 fn tagged(alloc: Global, tag: &[u8]) -> Result<StructDef, AllocError> {
@@ -109,5 +111,7 @@ fn tags_found(rt: &(impl Abort + AllocGlobal), table: &mut TypeTable) -> Result<
 #[test]
 fn first_of_a_tag(rt: HostRuntime) -> Result<(), Fail> {
     let mut table = TypeTable::new(rt.alloc());
-    tags_found(&rt, &mut table)
+    let found = tags_found(&rt, &mut table);
+    drop(table);
+    found
 }
