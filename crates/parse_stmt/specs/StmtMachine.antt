@@ -255,6 +255,22 @@ abbrev pub is_else : Sort → Bool
 is_else (sort.Word w.Else) = true
 is_else _ = false
 
+-- whether a frame ends where its last statement ends
+abbrev pub frame_ends : Bool → Frame → Bool
+frame_ends e (frame.Then s c) = cond e false true
+frame_ends e (frame.Else s c y) = true
+frame_ends e (frame.While s c) = true
+frame_ends e (frame.For s h) = true
+frame_ends e _ = false
+
+-- the statement that a frame is with its last statement, where it is one
+abbrev pub frame_ended : ℕ → Frame → StmtPart → StmtPart
+frame_ended n (frame.Then s c) x = if_part n s c x
+frame_ended n (frame.Else s c y) x = if_else_part n s c y x
+frame_ended n (frame.While s c) x = while_part n s c x
+frame_ended n (frame.For s h) x = for_part n s h x
+frame_ended n _ x = x
+
 -- What ends where the statement x ends, up to the block or the `do` around it. Where an `else`
 -- follows, an `if` that has none doesn't end.
 abbrev pub settle : ℕ → Bool → StmtPart → List Frame → StmtPart × List Frame
