@@ -3,3 +3,4 @@ pub mod PartLaws
 pub mod ExprComplete
 pub mod ExprSound
 pub mod ExprViable
+pub mod ReduceLaws

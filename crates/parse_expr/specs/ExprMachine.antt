@@ -58,6 +58,24 @@ Said = Answer ExprState Part
 abbrev pub to : Bool → Focus → List Frame → Said
 to e f fs = More (state e f fs)
 
+-- whether what waits in a frame binds at the level q or tighter
+abbrev pub binds : ℕ → Frame → Bool
+binds q (Prefix op s) = true
+binds q (Casting s i t) = true
+binds q (Left op s l) = nat_le q (level op)
+binds q (Choosing c s l) = nat_le q 0
+binds q (Assigning op s l) = nat_le q 0
+binds q _ = false
+
+-- the expression that a frame closes with its last part, where it has one
+abbrev pub closed : ℕ → Frame → Part → Part
+closed n (Prefix op s) p = prefixed n op s p
+closed n (Casting s i t) p = cast n s i t p
+closed n (Left op s l) p = joined n op s l p
+closed n (Choosing c s l) p = chosen n c s l p
+closed n (Assigning op s l) p = assigned n op s l p
+closed n _ p = p
+
 -- closes what binds at the level q or tighter; 0 closes assignments and conditionals too
 abbrev pub reduce : ℕ → ℕ → Part → List Frame → Part × List Frame
 reduce n q p (Prefix op s ∷ fs) = reduce n q (prefixed n op s p) fs

@@ -119,7 +119,7 @@ pub fn with_cast(
             }
         }
         Sort::Mark(mark) => {
-            if as_opener(*mark) == Opener::CloseParen {
+            if matches!(as_opener(*mark), Opener::CloseParen) {
                 if let Some(ty) = finish_int(words) {
                     state.frames.push(Frame::Casting(paren, ty, first))?;
                     state.go_to(Focus::Operand);
@@ -143,7 +143,7 @@ pub fn with_argument(
     ensures { IfOk result (λ r. Says r (argument_step 256 token.now.sort token.now.span function paren state.old.effect state.old.frames) state.new) }
 {
     if let Sort::Mark(mark) = &token.sort {
-        if as_opener(*mark) == Opener::CloseParen {
+        if matches!(as_opener(*mark), Opener::CloseParen) {
             let called = call(alloc, function, paren, empty_parts(alloc))?;
             state.go_to(Focus::Operated(called));
             return Ok(Verdict::More);
@@ -179,7 +179,7 @@ pub fn with_paren(token: &Terminal, focus: Focus, state: &mut ExprState) -> Verd
     ensures { Says result (paren_step token.now.sort focus state.old.effect state.old.frames) state.new }
 {
     if let Sort::Mark(mark) = &token.sort {
-        if as_opener(*mark) == Opener::OpenParen {
+        if matches!(as_opener(*mark), Opener::OpenParen) {
             state.go_to(focus);
             return Verdict::More;
         }
@@ -193,7 +193,7 @@ fn with_ending(token: &Terminal, focus: Focus, state: &mut ExprState) -> Verdict
     ensures { Says result (ending_step token.now.sort focus state.old.effect state.old.frames) state.new }
 {
     if let Sort::Mark(mark) = &token.sort {
-        if as_opener(*mark) == Opener::CloseParen {
+        if matches!(as_opener(*mark), Opener::CloseParen) {
             state.go_to(focus);
             return Verdict::More;
         }

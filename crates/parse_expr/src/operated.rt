@@ -1,7 +1,7 @@
 ghost use Rattle.std.specs.Prelude.{◌≡◌, IfOk};
 ghost use Rattle.parse_expr.specs.declared.state.ExprState.{ExprState};
 ghost use Rattle.parse_expr.specs.Operators.{level};
-ghost use Rattle.parse_expr.specs.ExprMachine.{Says, reduce, is_free, is_assignable, left_of, asking_of, assigning_of, finish_part, close_of, bracket_of, colon_of, comma_of, semicolon_of, followed, operated_step, is_postfix, whole_step, expr_step};
+ghost use Rattle.parse_expr.specs.ExprMachine.{Says, binds, closed, reduce, is_free, is_assignable, left_of, asking_of, assigning_of, finish_part, close_of, bracket_of, colon_of, comma_of, semicolon_of, followed, operated_step, is_postfix, whole_step, expr_step};
 
 use crate::operand::{
     with_argument, with_cast, with_operand, with_paren, with_parened, with_selected,
@@ -19,7 +19,37 @@ use parse_terms::{Sort, Stack, Terminal, TypeState, Verdict};
 use std::alloc::{AllocError, Global};
 use std::mem;
 
+/// Whether what waits in a frame binds at the level or tighter.
+fn binds_at(least: u32, frame: &Frame) -> bool
+    ensures { result ≡ binds least frame.now }
+{
+    match frame {
+        Frame::Prefix(_, _) | Frame::Casting(_, _, _) => true,
+        Frame::Left(operator, _, _) => least <= level_of(*operator),
+        Frame::Choosing(_, _, _) | Frame::Assigning(_, _, _) => least == 0,
+        _ => false,
+    }
+}
+
+/// Closes a frame with its last part.
+fn close(alloc: Global, frame: Frame, part: Part) -> Result<Part, AllocError>
+    ensures { IfOk result (λ r. r ≡ closed 256 frame part) }
+{
+    match frame {
+        Frame::Prefix(operator, at) => prefix(alloc, operator, at, part),
+        Frame::Casting(at, ty, ty_at) => convert(alloc, at, ty, ty_at, part),
+        Frame::Left(operator, at, left) => join(alloc, operator, at, left, part),
+        Frame::Choosing(test, at, left) => choose(alloc, test, at, left, part),
+        Frame::Assigning(operator, at, left) => assign(alloc, operator, at, left, part),
+        other => {
+            drop(other);
+            Ok(part)
+        }
+    }
+}
+
 /// Closes what binds at the level or tighter.
+#[tactic(auto, using(crate::proofs::ReduceLaws::reduce_frame))]
 fn reduced(
     alloc: Global,
     least: u32,
@@ -31,47 +61,11 @@ fn reduced(
     let mut part = part;
     let mut frames = frames;
     while let Some(frame) = frames.pop() {
-        match frame {
-            Frame::Prefix(operator, at) => part = prefix(alloc, operator, at, part)?,
-            Frame::Casting(at, ty, ty_at) => part = convert(alloc, at, ty, ty_at, part)?,
-            Frame::Left(operator, at, left) => {
-                if least > level_of(operator) {
-                    frames.push(Frame::Left(operator, at, left))?;
-                    return Ok((part, frames));
-                }
-                part = join(alloc, operator, at, left, part)?;
-            }
-            Frame::Choosing(test, at, left) => {
-                if least > 0 {
-                    frames.push(Frame::Choosing(test, at, left))?;
-                    return Ok((part, frames));
-                }
-                part = choose(alloc, test, at, left, part)?;
-            }
-            Frame::Assigning(operator, at, left) => {
-                if least > 0 {
-                    frames.push(Frame::Assigning(operator, at, left))?;
-                    return Ok((part, frames));
-                }
-                part = assign(alloc, operator, at, left, part)?;
-            }
-            Frame::Paren(at) => {
-                frames.push(Frame::Paren(at))?;
-                return Ok((part, frames));
-            }
-            Frame::Calling(function, at, arguments) => {
-                frames.push(Frame::Calling(function, at, arguments))?;
-                return Ok((part, frames));
-            }
-            Frame::Indexing(array, at) => {
-                frames.push(Frame::Indexing(array, at))?;
-                return Ok((part, frames));
-            }
-            Frame::Asking(test, at) => {
-                frames.push(Frame::Asking(test, at))?;
-                return Ok((part, frames));
-            }
+        if !binds_at(least, &frame) {
+            frames.push(frame)?;
+            return Ok((part, frames));
         }
+        part = close(alloc, frame, part)?;
     }
     Ok((part, frames))
 }

@@ -5,7 +5,7 @@ use c_lex::Mark;
 use c_tree::{AssignOp, BinaryOp, Selector, UnaryOp};
 
 /// What a mark is behind an operand.
-#[derive(Clone, Copy, Debug, PartialEq, Eq)]
+#[derive(Clone, Copy)]
 pub enum Follower {
     OpenParen,
     OpenBracket,
@@ -24,7 +24,7 @@ pub enum Follower {
 }
 
 /// What a mark is where an operand begins.
-#[derive(Clone, Copy, Debug, PartialEq, Eq)]
+#[derive(Clone, Copy)]
 pub enum Opener {
     OpenParen,
     CloseParen,

@@ -139,8 +139,9 @@ expr_said n k h Bad st = Bad
 abbrev pub expr_at : ℕ → Terminal → Hole → BodyState → Said
 expr_at n t h st = expr_said n t.sort h (expr_step n t st.expr) st
 
--- a token begins an expression
-abbrev pub feed : ℕ → Terminal → Hole → BodyState → Said
+-- A token begins an expression. What the machine of expressions says to it is long at a token that isn't
+-- known, so this word doesn't compute by itself.
+unfoldable pub feed : ℕ → Terminal → Hole → BodyState → Said
 feed n t h st = expr_at n t h (record st { expr = start (hole_effect h) })
 
 -- ---- locals
@@ -177,11 +178,15 @@ named_expr x = expr_machine.state true (Operated (leaf (expr.Name x))) []
 abbrev pub bare_local : ℕ → Terminal → LocalPlace → Name → BodyState → Said
 bare_local n t p x st = type_said n t p (type_step t (type_state.Stars (base.Named x) [])) st
 
+-- a token behind a name that begins an effect, as a word that doesn't compute by itself
+unfoldable pub named_effect : ℕ → Terminal → LocalPlace → Name → BodyState → Said
+named_effect n t p x st = expr_at n t (effect_hole p) (record st { expr = named_expr x })
+
 -- a name or `*` behind a name: the first name was a type's
 abbrev pub bare_step : ℕ → Terminal → Sort → LocalPlace → Name → BodyState → Said
 bare_step n t (sort.Name y) p x st = bare_local n t p x st
 bare_step n t (sort.Mark m.Star) p x st = bare_local n t p x st
-bare_step n t k p x st = expr_at n t (effect_hole p) (record st { expr = named_expr x })
+bare_step n t k p x st = named_effect n t p x st
 
 -- the words that a type begins with
 abbrev pub is_type_word : Word → Bool
@@ -195,7 +200,8 @@ is_type_word w.Int = true
 is_type_word w.Long = true
 is_type_word _ = false
 
-abbrev pub begin_type : ℕ → Terminal → LocalPlace → BodyState → Said
+-- a type's first word, as a word that doesn't compute by itself
+unfoldable pub begin_type : ℕ → Terminal → LocalPlace → BodyState → Said
 begin_type n t p st = type_said n t p (type_step t type_state.Opening) st
 
 -- ---- where a statement begins
@@ -248,6 +254,22 @@ item_step n t k st = stmt_step n t k st
 abbrev pub is_else : Sort → Bool
 is_else (sort.Word w.Else) = true
 is_else _ = false
+
+-- whether a frame ends where its last statement ends
+abbrev pub frame_ends : Bool → Frame → Bool
+frame_ends e (frame.Then s c) = cond e false true
+frame_ends e (frame.Else s c y) = true
+frame_ends e (frame.While s c) = true
+frame_ends e (frame.For s h) = true
+frame_ends e _ = false
+
+-- the statement that a frame is with its last statement, where it is one
+abbrev pub frame_ended : ℕ → Frame → StmtPart → StmtPart
+frame_ended n (frame.Then s c) x = if_part n s c x
+frame_ended n (frame.Else s c y) x = if_else_part n s c y x
+frame_ended n (frame.While s c) x = while_part n s c x
+frame_ended n (frame.For s h) x = for_part n s h x
+frame_ended n _ x = x
 
 -- What ends where the statement x ends, up to the block or the `do` around it. Where an `else`
 -- follows, an `if` that has none doesn't end.

@@ -255,6 +255,7 @@ pub fn with_expr(
 }
 
 /// A token begins an expression.
+#[tactic(auto, unfolding(crate::specs::StmtMachine::feed))]
 pub fn with_first(
     alloc: Global,
     token: &Terminal,

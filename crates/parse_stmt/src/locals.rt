@@ -3,7 +3,7 @@ ghost use Rattle.parse_terms.specs.declared.answer.Answer.{Answer};
 ghost use Rattle.parse_terms.specs.TypeNames.{type_step};
 ghost use Rattle.parse_terms.specs.Declarators.{decl_step};
 ghost use Rattle.parse_expr.specs.Parts.{leaf};
-ghost use Rattle.parse_stmt.specs.StmtMachine.{Says, declared_step, decl_said, type_said, named_expr, bare_local, bare_step, is_type_word, begin_type, va_list_name, va_list_end};
+ghost use Rattle.parse_stmt.specs.StmtMachine.{Says, declared_step, decl_said, type_said, named_expr, named_effect, bare_local, bare_step, is_type_word, begin_type, va_list_name, va_list_end};
 
 use crate::expressions::{as_effect_hole, begin_decl, begin_hole, finish_locals, go, with_expr};
 use crate::parts::{Body, Capped, DeclsPart, absent, add_decl, add_va_list, empty_decls};
@@ -95,6 +95,7 @@ pub fn with_type(
 }
 
 /// A type's first word.
+#[tactic(auto, unfolding(crate::specs::StmtMachine::begin_type))]
 pub fn with_first_word(
     alloc: Global,
     token: &Terminal,
@@ -148,6 +149,21 @@ fn begin_named(alloc: Global, name: Name) -> Result<ExprState, AllocError>
     })
 }
 
+/// Behind a name that begins an effect.
+#[tactic(auto, unfolding(crate::specs::StmtMachine::named_effect))]
+fn with_effect(
+    alloc: Global,
+    token: &Terminal,
+    place: LocalPlace,
+    name: Name,
+    state: &mut BodyState,
+) -> Result<Verdict<Body>, AllocError>
+    ensures { IfOk result (λ r. Says r (named_effect 256 token.now place name state.old) state.new) }
+{
+    state.take_expr(begin_named(alloc, name)?);
+    with_expr(alloc, token, as_effect_hole(place), state)
+}
+
 /// Behind a name, where a local or an effect begins.
 pub fn with_bare(
     alloc: Global,
@@ -160,10 +176,7 @@ pub fn with_bare(
 {
     match &token.sort {
         Sort::Name(_) | Sort::Mark(Mark::Star) => with_typedef(alloc, token, place, name, state),
-        _ => {
-            state.take_expr(begin_named(alloc, name)?);
-            with_expr(alloc, token, as_effect_hole(place), state)
-        }
+        _ => with_effect(alloc, token, place, name, state),
     }
 }
 

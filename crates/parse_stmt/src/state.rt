@@ -10,7 +10,7 @@ use std::alloc::Global;
 use std::mem;
 
 /// Where locals are declared.
-#[derive(Clone, Copy, Debug, PartialEq, Eq)]
+#[derive(Clone, Copy)]
 pub enum LocalPlace {
     Block,
     /// Behind `for (`, with the place of `for`.

@@ -1,5 +1,5 @@
 ghost use Rattle.std.specs.Prelude.{◌≡◌, IfOk};
-ghost use Rattle.parse_stmt.specs.StmtMachine.{Says, stmt_word, stmt_mark, stmt_step, end_block, item_word, item_mark, item_step, is_else, settle, attach, do_step, after_stmt, ended_step};
+ghost use Rattle.parse_stmt.specs.StmtMachine.{Says, stmt_word, stmt_mark, stmt_step, end_block, item_word, item_mark, item_step, is_else, frame_ends, frame_ended, settle, attach, do_step, after_stmt, ended_step};
 
 use crate::expressions::{go, go_under, with_first};
 use crate::locals::{begins_type, with_first_word};
@@ -131,7 +131,35 @@ pub fn with_item(
     }
 }
 
+/// Whether a frame ends where its last statement ends.
+fn ends(continues: bool, frame: &Frame) -> bool
+    ensures { result ≡ frame_ends continues frame.now }
+{
+    match frame {
+        Frame::Then(_, _) => !continues,
+        Frame::Else(_, _, _) | Frame::While(_, _) | Frame::For(_, _) => true,
+        _ => false,
+    }
+}
+
+/// The statement that a frame is with its last statement.
+fn ended(alloc: Global, frame: Frame, x: StmtPart) -> Result<StmtPart, AllocError>
+    ensures { IfOk result (λ r. r ≡ frame_ended 256 frame x) }
+{
+    match frame {
+        Frame::Then(at, test) => make_if(alloc, at, test, x),
+        Frame::Else(at, test, yes) => make_if_else(alloc, at, test, yes, x),
+        Frame::While(at, test) => make_while(alloc, at, test, x),
+        Frame::For(at, head) => make_for(alloc, at, head, x),
+        other => {
+            drop(other);
+            Ok(x)
+        }
+    }
+}
+
 /// What ends where a statement ends; where an `else` follows, no `if` that has none.
+#[tactic(auto, using(crate::proofs::SettleLaws::settle_frame))]
 fn settled(
     alloc: Global,
     continues: bool,
@@ -143,26 +171,11 @@ fn settled(
     let mut x = x;
     let mut frames = frames;
     while let Some(frame) = frames.pop() {
-        match frame {
-            Frame::Then(at, test) => {
-                if continues {
-                    frames.push(Frame::Then(at, test))?;
-                    return Ok((x, frames));
-                }
-                x = make_if(alloc, at, test, x)?;
-            }
-            Frame::Else(at, test, yes) => x = make_if_else(alloc, at, test, yes, x)?,
-            Frame::While(at, test) => x = make_while(alloc, at, test, x)?,
-            Frame::For(at, head) => x = make_for(alloc, at, head, x)?,
-            Frame::Do(at) => {
-                frames.push(Frame::Do(at))?;
-                return Ok((x, frames));
-            }
-            Frame::Nested(at, before) => {
-                frames.push(Frame::Nested(at, before))?;
-                return Ok((x, frames));
-            }
+        if !ends(continues, &frame) {
+            frames.push(frame)?;
+            return Ok((x, frames));
         }
+        x = ended(alloc, frame, x)?;
     }
     Ok((x, frames))
 }

@@ -59,7 +59,7 @@ use Rattle.parse_stmt.specs.declared.parts.Capped.{Capped}
 use Rattle.parse_stmt.specs.declared.parts.ForHead.{ForHead}
 use Rattle.parse_stmt.specs.StmtGrammar.{IsLocalDecl, uninitialized, initialized, IsLocalDecls, no_decls as no_decls_read, another_decl, local_decls, IsVariables, variables, IsLocal, declared_local, va_list_local, IsForStart, start_local, start_effect, start_nothing, IsOptional, no_value, a_value, IsForStep, no_step, a_step, IsStmt, block_stmt, empty_stmt, effect_stmt, break_stmt, continue_stmt, if_alone, if_else, while_stmt, do_stmt, for_stmt, return_stmt, va_start_stmt, va_end_stmt, IsBlockItems, no_items as no_items_read, local_item, stmt_item}
 use Rattle.parse_stmt.specs.StmtParts.{ExprPart, OptionPart, DeclsPart, StmtPart, Body, cap_body, of_part, no_decls, no_part, some_part, with_decl, with_stmt, with_locals, start_locals, start_part, head_of, for_head, return_part, if_part, if_else_part, while_part, for_part}
-use Rattle.parse_stmt.specs.StmtMachine.{state, idle, body_start, Said, slot_effect, hole_effect, end_locals, next_decl, hole_step, expr_said, expr_at, feed, declared_step, decl_said, type_said, effect_hole, named_expr, bare_step, is_type_word, begin_type, stmt_step, item_word, item_step, is_else, settle, attach, after_stmt, optional_step, body_step}
+use Rattle.parse_stmt.specs.StmtMachine.{state, idle, body_start, Said, slot_effect, hole_effect, end_locals, next_decl, hole_step, expr_said, expr_at, feed, declared_step, decl_said, type_said, effect_hole, named_expr, named_effect, bare_step, is_type_word, begin_type, stmt_step, item_word, item_step, is_else, settle, attach, after_stmt, optional_step, body_step}
 use Rattle.stmt_laws.proofs.PartLaws.{cap_expr, cap_option, cap_decls, cap_start, cap_head, cap_stmt, of_part-cap, stmt_leaf-cap, no_items-cap, no_decls-cap, no_part-cap, some_part-cap, with_decl-cap, with_stmt-cap, with_locals-cap, with_va_list-cap, start_locals-cap, start_part-cap, for_head-cap, block_part-cap, effect_part-cap, return_part-cap, if_part-cap, if_else_part-cap, while_part-cap, do_part-cap, for_part-cap}
 
 false_true : false ≡ true → ⊥
@@ -205,6 +205,7 @@ module _ (n : ℕ) (low : 1 ≤ n) where
 
   bare_effect : (k : Sort) (s : Span) (p : LocalPlace) (x : Name) (st : BodyState) → (expr_step n (term k s) (named_expr x) ≡ Bad → ⊥) →
       bare_step n (term k s) k p x st ≡ expr_at n (term k s) (effect_hole p) (record st { expr = named_expr x })
+  unfolding named_effect
   bare_effect (sort.Name y) s p x st g = absurd (g refl)
   bare_effect (sort.Mark m.Star) s p x st g = absurd (g refl)
   bare_effect (sort.Mark k) s p x st g = refl
@@ -308,11 +309,13 @@ module _ (n : ℕ) (low : 1 ≤ n) where
 
   stmt_begins : (a : List Terminal) (q : Part) (c : List Terminal) → run (expr_step n) a (start true) ≡ Finished q c → (d : Body) (fs : List Frame) →
       go a (at focus.Stmt d fs) ≡ go a (in_expr hole.Effect d fs (start true))
+  unfolding feed
   stmt_begins [] q c r d fs = absurd (not_empty (expr_step n) (start true) q c r)
   stmt_begins (t ∷ a) q c r d fs = ap (λ v. after v (go a) (t ∷ a)) (stmt_feeds t.sort t.span (at focus.Item d fs) (not_bad (expr_step n) (start true) t a q c r))
 
   item_begins_at : (k : Sort) (s : Span) (a : List Terminal) (q : Part) (c : List Terminal) → run (expr_step n) (term k s ∷ a) (start true) ≡ Finished q c → (d : Body) (fs : List Frame) →
       go (term k s ∷ a) (at focus.Item d fs) ≡ go (term k s ∷ a) (in_expr hole.Effect d fs (start true))
+  unfolding feed
   item_begins_at (sort.Name x) s a q c r d fs = bare_lands place.Block (name_of x s) a q c r d fs
   item_begins_at k s a q c r d fs = ap (λ v. after v (go a) (term k s ∷ a)) (item_feeds k s (at focus.Item d fs) (not_bad (expr_step n) (start true) (term k s) a q c r) tt)
 
@@ -323,10 +326,12 @@ module _ (n : ℕ) (low : 1 ≤ n) where
 
   slot_begins_at : (k : Sort) (s : Span) (l : Slot) → NotStart k l → (a : List Terminal) (q : Part) (c : List Terminal) → run (expr_step n) (term k s ∷ a) (start (slot_effect l)) ≡ Finished q c → (d : Body) (fs : List Frame) →
       go (term k s ∷ a) (at (focus.Optional l) d fs) ≡ go (term k s ∷ a) (in_expr (hole.Slot l) d fs (start (slot_effect l)))
+  unfolding feed
   slot_begins_at k s l h a q c r d fs = ap (λ v. after v (go a) (term k s ∷ a)) (optional_feeds k s l (at focus.Item d fs) (not_bad (expr_step n) (start (slot_effect l)) (term k s) a q c r) h)
 
   start_begins_at : (k : Sort) (s u : Span) (a : List Terminal) (q : Part) (c : List Terminal) → run (expr_step n) (term k s ∷ a) (start true) ≡ Finished q c → (d : Body) (fs : List Frame) →
       go (term k s ∷ a) (at (focus.Optional (slot.Start u)) d fs) ≡ go (term k s ∷ a) (in_expr (hole.Slot (slot.Start u)) d fs (start true))
+  unfolding feed
   start_begins_at (sort.Name x) s u a q c r d fs = bare_lands (place.For u) (name_of x s) a q c r d fs
   start_begins_at k s u a q c r d fs = slot_begins_at k s (slot.Start u) tt a q c r d fs
 
@@ -370,6 +375,7 @@ module _ (n : ℕ) (low : 1 ≤ n) where
 
   opens_run : (p : LocalPlace) (v : Word) (s : Span) (a : List Terminal) → is_type_word v ≡ true → (d : Body) (fs : List Frame) →
       go (word v s ∷ a) (at (before_locals p) d fs) ≡ go (word v s ∷ a) (at (focus.Typing p type_state.Opening) d fs)
+  unfolding begin_type
   opens_run p v s a h d fs = ap (λ y. after y (go a) (word v s ∷ a)) (opens_type p v s h d fs)
 
   names_type : (p : LocalPlace) (x : List ℕ) (s : Span) (a : List Terminal) (d : Body) (fs : List Frame) →

@@ -57,7 +57,7 @@ use Rattle.parse_stmt.specs.declared.parts.Capped.{Capped}
 use Rattle.parse_stmt.specs.declared.parts.ForHead.{ForHead}
 use Rattle.parse_stmt.specs.StmtGrammar.{local_decl, uninitialized, initialized, IsLocalDecls, no_decls as no_decls_read, another_decl, IsLocals, local_decls, variables, declared_local, va_list_local, IsForStart, start_local, start_effect, start_nothing, IsOptional, no_value, a_value, IsForStep, no_step, a_step, IsStmt, block_stmt, empty_stmt, effect_stmt, break_stmt, continue_stmt, if_alone, if_else, while_stmt, do_stmt, for_stmt, return_stmt, va_start_stmt, va_end_stmt, IsBlockItems, no_items as no_items_read, local_item, stmt_item}
 use Rattle.parse_stmt.specs.StmtParts.{decls_height, items_height, capped, leaf_part, ExprPart, OptionPart, DeclsPart, StmtPart, Body, cap_body, of_part, no_items, no_decls, no_part, some_part, with_decl, with_stmt, with_locals, with_va_list, start_locals, start_part, head_of, for_head, block_part, effect_part, return_part, if_part, if_else_part, while_part, do_part, for_part}
-use Rattle.parse_stmt.specs.StmtMachine.{state, idle, body_start, Said, slot_effect, hole_effect, end_locals, slot_close, slot_semicolon, hole_close, hole_semicolon, hole_comma, hole_step, expr_said, expr_at, feed, declared_mark, declared_step, decl_said, type_said, effect_hole, named_expr, bare_local, bare_step, is_type_word, begin_type, stmt_word, stmt_mark, stmt_step, end_block, item_word, item_mark, item_step, settle, attach, do_step, after_stmt, ended_step, opened, paren_step, semicolon_step, close_step, comma_step, va_list_name, va_list_end, va_start_name, va_start_last, va_end_name, optional_name, optional_word, optional_mark, optional_step, body_step}
+use Rattle.parse_stmt.specs.StmtMachine.{state, idle, body_start, Said, slot_effect, hole_effect, end_locals, slot_close, slot_semicolon, hole_close, hole_semicolon, hole_comma, hole_step, expr_said, expr_at, feed, declared_mark, declared_step, decl_said, type_said, effect_hole, named_expr, named_effect, bare_local, bare_step, is_type_word, begin_type, stmt_word, stmt_mark, stmt_step, end_block, item_word, item_mark, item_step, settle, attach, do_step, after_stmt, ended_step, opened, paren_step, semicolon_step, close_step, comma_step, va_list_name, va_list_end, va_start_name, va_start_last, va_end_name, optional_name, optional_word, optional_mark, optional_step, body_step}
 use Rattle.stmt_laws.proofs.PartLaws.{head_height, cap_expr, cap_option, cap_decls, cap_start, cap_head, cap_stmt, of_part-cap, stmt_leaf-cap, no_items-cap, no_decls-cap, no_part-cap, some_part-cap, with_decl-cap, with_stmt-cap, with_locals-cap, with_va_list-cap, start_locals-cap, start_part-cap, for_head-cap, block_part-cap, effect_part-cap, return_part-cap, if_part-cap, if_else_part-cap, while_part-cap, do_part-cap, for_part-cap}
 use Rattle.stmt_laws.specs.Bodies.{IsBodyRead}
 
@@ -396,6 +396,7 @@ module _ (n : ℕ) (low : 1 ≤ n) where
     type_sound t a Bad r i = tt
 
     begin_type_sound : (t : Terminal) {p : LocalPlace} {d : Body} {fs : List Frame} {a : List Terminal} → PlaceAt p d fs (t ∷ a) → IfSound (begin_type n t p (here focus.Item d fs)) t a
+    unfolding begin_type
     begin_type_sound t {a = a} r = type_sound t a (type_step t type_state.Opening) r (type_law t type_state.Opening (t ∷ a) a refl)
 
     -- ---- expressions
@@ -461,6 +462,7 @@ module _ (n : ℕ) (low : 1 ≤ n) where
     expr_at_sound t {e = e} r c = expr_sound_at t r c (expr_step n t e) refl
 
     feed_sound : (t : Terminal) {h : Hole} {d : Body} {fs : List Frame} {a : List Terminal} → HoleAt h d fs (t ∷ a) → IfSound (feed n t h (here focus.Item d fs)) t a
+    unfolding feed
     feed_sound t r = expr_at_sound t r begun
 
     -- ---- behind a name
@@ -485,6 +487,7 @@ module _ (n : ℕ) (low : 1 ≤ n) where
 
     bare_sound : (k : Sort) (s : Span) (x : List ℕ) (u : Span) {p : LocalPlace} {d : Body} {fs : List Frame} {a : List Terminal} → PlaceAt p d fs (named x u ∷ term k s ∷ a) →
         IfSound (bare_step n (term k s) k p (name_of x u) (here focus.Item d fs)) (term k s) a
+    unfolding named_effect
     bare_sound (sort.Name y) s x u r = bare_local_sound (named y s) x u r
     bare_sound (sort.Mark m.Star) s x u r = bare_local_sound (mark m.Star s) x u r
     bare_sound k s x u r = bare_effect_sound (term k s) x u r
