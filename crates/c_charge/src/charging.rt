@@ -8,7 +8,7 @@ use c_program::{AdjustDef, Program, Target, frame_bytes, nodes_of_function};
 use c_types::{FunTy, Ty, Types, size};
 
 /// The charge for so many nodes and bytes.
-fn of_parts(nodes: u64, bytes: u64) -> u64
+pub fn of_parts(nodes: u64, bytes: u64) -> u64
     ensures { result ≡ small (charge_by nodes bytes) }
 {
     let nodes = nodes.saturating_mul(64);

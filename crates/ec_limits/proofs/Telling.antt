@@ -1,5 +1,5 @@
--- A count in 64 bits passes the same numbers.
-use Rattle.std.proofs.Common.{◌≡◌, ℕ, ◌<◌, Bool, true, false, List, [], ◌∷◌, ◌++◌, map, Option, Some, None, refl, sym, ◌∙◌, arith, lit<}
+-- A count in 64 bits passes the same numbers, and the first that does is told.
+use Rattle.std.proofs.Common.{◌≡◌, ℕ, ◌<◌, Bool, true, false, List, [], ◌∷◌, ◌++◌, Option, Some, None, sym, ◌∙◌, refl, arith, lit<}
 use Rattle.std.specs.Prelude.{nat_lt, if◌then◌else◌}
 use Rattle.std.proofs.lemmas.Bool.Decides.{nat_tests}
 use Rattle.std.proofs.lemmas.Option.{none-some}
@@ -8,30 +8,20 @@ use Rattle.c_program.specs.declared.program.Program.{Program}
 use Rattle.ec_report.specs.declared.kinds.LimitKind.{LimitKind}
 use Rattle.ec_limits.specs.declared.counts.Count.{Count}
 use Rattle.ec_limits.specs.declared.counts.Passed.{Passed}
-use Rattle.ec_limits.specs.Limits.{amounts, of_structs, rest, told, first_passed, passed}
-
--- numbers below 2 ^ 64 - 1
-abbrev AreSmall : List Count → Type 0
-AreSmall [] = Unit {0}
-AreSmall (c ∷ cs) = (c.most < 18446744073709551615) × AreSmall cs
+use Rattle.ec_limits.specs.Limits.{of_nodes, of_functions, of_parameters, of_extras, amounts, of_structs, of_frames, of_globals, of_names, rest, told, first_passed, passed}
 
 told-row : (which : LimitKind) (most count : ℕ) (a b : Option Passed) → most < 18446744073709551615 → a ≡ b →
     (if nat_lt most (small count) then Some (record { which = which; count = small (small count) }) else a) ≡ (if nat_lt most count then Some (record { which = which; count = small count }) else b)
 told-row which most count a b h e = grind (arith, nat_tests)
 
-told-first : (cs : List Count) → AreSmall cs → first_passed (map told cs) ≡ first_passed cs
-told-first [] h = refl
-told-first (c ∷ cs) h = told-row c.which c.most c.count _ _ h.0 (told-first cs h.1)
+told_one : (c : Count) → c.most < 18446744073709551615 → first_passed (told c ∷ []) ≡ first_passed (c ∷ [])
+told_one c h = told-row c.which c.most c.count None None h refl
 
--- so it is with the parts of what is counted
-pub told_amounts : (p : Program) → first_passed (map told (amounts p)) ≡ first_passed (amounts p)
-told_amounts p = told-first (amounts p) (lit< tt, (lit< tt, (lit< tt, (lit< tt, tt))))
+pub told_extras : (p : Program) → first_passed (told (of_extras p) ∷ []) ≡ first_passed (of_extras p ∷ [])
+told_extras p = told_one (of_extras p) (lit< tt)
 
-pub told_structs : (p : Program) → first_passed (told (of_structs p) ∷ []) ≡ first_passed (of_structs p ∷ [])
-told_structs p = told-first (of_structs p ∷ []) (lit< tt, tt)
-
-pub told_rest : (p : Program) (longest : ℕ) → first_passed (map told (rest p longest)) ≡ first_passed (rest p longest)
-told_rest p longest = told-first (rest p longest) (lit< tt, (lit< tt, (lit< tt, tt)))
+pub told_names : (longest : ℕ) → first_passed (told (of_names longest) ∷ []) ≡ first_passed (of_names longest ∷ [])
+told_names longest = told_one (of_names longest) (lit< tt)
 
 -- ---- the first of some counts and of others behind them
 
@@ -51,16 +41,52 @@ none-first : (xs ys : List Count) → first_passed xs ≡ None → first_passed 
 none-first [] ys h = refl
 none-first (c ∷ cs) ys h = none-row (nat_lt c.most c.count) _ _ _ _ (none-first cs ys) h
 
-pub amounts_found : (p : Program) (longest : ℕ) (x : Passed) → first_passed (map told (amounts p)) ≡ Some x → ◌≡◌ {A = Option Passed} (Some x) (passed p longest)
-unfolding passed
-amounts_found p longest x h = sym (found-first (amounts p) (of_structs p ∷ rest p longest) x (sym (told_amounts p) ∙ h))
+found : (c : Count) (cs : List Count) (x : Passed) → c.most < 18446744073709551615 → first_passed (told c ∷ []) ≡ Some x → ◌≡◌ {A = Option Passed} (Some x) (first_passed (c ∷ cs))
+found c cs x low h = sym (found-first (c ∷ []) cs x (sym (told_one c low) ∙ h))
 
-pub amounts_none : (p : Program) (longest : ℕ) → first_passed (map told (amounts p)) ≡ None → first_passed (of_structs p ∷ rest p longest) ≡ passed p longest
-unfolding passed
-amounts_none p longest h = sym (none-first (amounts p) (of_structs p ∷ rest p longest) (sym (told_amounts p) ∙ h))
+none : (c : Count) (cs : List Count) → c.most < 18446744073709551615 → first_passed (told c ∷ []) ≡ None → first_passed cs ≡ first_passed (c ∷ cs)
+none c cs low h = sym (none-first (c ∷ []) cs (sym (told_one c low) ∙ h))
+
+pub nodes_found : (p : Program) (x : Passed) → first_passed (told (of_nodes p) ∷ []) ≡ Some x → ◌≡◌ {A = Option Passed} (Some x) (first_passed (of_nodes p ∷ of_functions p ∷ of_parameters p ∷ of_extras p ∷ []))
+nodes_found p x h = found (of_nodes p) (of_functions p ∷ of_parameters p ∷ of_extras p ∷ []) x (lit< tt) h
+
+pub nodes_none : (p : Program) → first_passed (told (of_nodes p) ∷ []) ≡ None → first_passed (of_functions p ∷ of_parameters p ∷ of_extras p ∷ []) ≡ first_passed (of_nodes p ∷ of_functions p ∷ of_parameters p ∷ of_extras p ∷ [])
+nodes_none p h = none (of_nodes p) (of_functions p ∷ of_parameters p ∷ of_extras p ∷ []) (lit< tt) h
+
+pub functions_found : (p : Program) (x : Passed) → first_passed (told (of_functions p) ∷ []) ≡ Some x → ◌≡◌ {A = Option Passed} (Some x) (first_passed (of_functions p ∷ of_parameters p ∷ of_extras p ∷ []))
+functions_found p x h = found (of_functions p) (of_parameters p ∷ of_extras p ∷ []) x (lit< tt) h
+
+pub functions_none : (p : Program) → first_passed (told (of_functions p) ∷ []) ≡ None → first_passed (of_parameters p ∷ of_extras p ∷ []) ≡ first_passed (of_functions p ∷ of_parameters p ∷ of_extras p ∷ [])
+functions_none p h = none (of_functions p) (of_parameters p ∷ of_extras p ∷ []) (lit< tt) h
+
+pub parameters_found : (p : Program) (x : Passed) → first_passed (told (of_parameters p) ∷ []) ≡ Some x → ◌≡◌ {A = Option Passed} (Some x) (first_passed (of_parameters p ∷ of_extras p ∷ []))
+parameters_found p x h = found (of_parameters p) (of_extras p ∷ []) x (lit< tt) h
+
+pub parameters_none : (p : Program) → first_passed (told (of_parameters p) ∷ []) ≡ None → first_passed (of_extras p ∷ []) ≡ first_passed (of_parameters p ∷ of_extras p ∷ [])
+parameters_none p h = none (of_parameters p) (of_extras p ∷ []) (lit< tt) h
 
 pub structs_found : (p : Program) (longest : ℕ) (x : Passed) → first_passed (told (of_structs p) ∷ []) ≡ Some x → ◌≡◌ {A = Option Passed} (Some x) (first_passed (of_structs p ∷ rest p longest))
-structs_found p longest x h = sym (found-first (of_structs p ∷ []) (rest p longest) x (sym (told_structs p) ∙ h))
+structs_found p longest x h = found (of_structs p) (rest p longest) x (lit< tt) h
 
-pub structs_none : (p : Program) (longest : ℕ) → first_passed (told (of_structs p) ∷ []) ≡ None → first_passed (map told (rest p longest)) ≡ first_passed (of_structs p ∷ rest p longest)
-structs_none p longest h = told_rest p longest ∙ sym (none-first (of_structs p ∷ []) (rest p longest) (sym (told_structs p) ∙ h))
+pub structs_none : (p : Program) (longest : ℕ) → first_passed (told (of_structs p) ∷ []) ≡ None → first_passed (rest p longest) ≡ first_passed (of_structs p ∷ rest p longest)
+structs_none p longest h = none (of_structs p) (rest p longest) (lit< tt) h
+
+pub frames_found : (p : Program) (longest : ℕ) (x : Passed) → first_passed (told (of_frames p) ∷ []) ≡ Some x → ◌≡◌ {A = Option Passed} (Some x) (first_passed (of_frames p ∷ of_globals p ∷ of_names longest ∷ []))
+frames_found p longest x h = found (of_frames p) (of_globals p ∷ of_names longest ∷ []) x (lit< tt) h
+
+pub frames_none : (p : Program) (longest : ℕ) → first_passed (told (of_frames p) ∷ []) ≡ None → first_passed (of_globals p ∷ of_names longest ∷ []) ≡ first_passed (of_frames p ∷ of_globals p ∷ of_names longest ∷ [])
+frames_none p longest h = none (of_frames p) (of_globals p ∷ of_names longest ∷ []) (lit< tt) h
+
+pub globals_found : (p : Program) (longest : ℕ) (x : Passed) → first_passed (told (of_globals p) ∷ []) ≡ Some x → ◌≡◌ {A = Option Passed} (Some x) (first_passed (of_globals p ∷ of_names longest ∷ []))
+globals_found p longest x h = found (of_globals p) (of_names longest ∷ []) x (lit< tt) h
+
+pub globals_none : (p : Program) (longest : ℕ) → first_passed (told (of_globals p) ∷ []) ≡ None → first_passed (of_names longest ∷ []) ≡ first_passed (of_globals p ∷ of_names longest ∷ [])
+globals_none p longest h = none (of_globals p) (of_names longest ∷ []) (lit< tt) h
+
+pub amounts_found : (p : Program) (longest : ℕ) (x : Passed) → first_passed (amounts p) ≡ Some x → ◌≡◌ {A = Option Passed} (Some x) (passed p longest)
+unfolding passed
+amounts_found p longest x h = sym (found-first (amounts p) (of_structs p ∷ rest p longest) x h)
+
+pub amounts_none : (p : Program) (longest : ℕ) → first_passed (amounts p) ≡ None → first_passed (of_structs p ∷ rest p longest) ≡ passed p longest
+unfolding passed
+amounts_none p longest h = sym (none-first (amounts p) (of_structs p ∷ rest p longest) h)

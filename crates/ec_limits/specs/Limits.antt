@@ -48,21 +48,35 @@ global_bytes p = sum_by (λ (g : GlobalDef). size_of p.types g.ty) p.globals
 
 -- What is counted of a program, in order: what it has so many of, then the bytes of its greatest struct, and then
 -- those of frames, of globals and of names. The names are those of its units' texts, of which the longest is given.
+abbrev pub of_nodes : Program → Count
+of_nodes p = record { which = Nodes; most = 65536; count = program_nodes p }
+
+abbrev pub of_functions : Program → Count
+of_functions p = record { which = Functions; most = 4096; count = function_count p }
+
+abbrev pub of_parameters : Program → Count
+of_parameters p = record { which = Parameters; most = 64; count = parameter_count p }
+
+abbrev pub of_extras : Program → Count
+of_extras p = record { which = Extras; most = 256; count = p.extras }
+
 abbrev pub amounts : Program → List Count
-amounts p =
-    record { which = Nodes; most = 65536; count = program_nodes p } ∷
-    record { which = Functions; most = 4096; count = function_count p } ∷
-    record { which = Parameters; most = 64; count = parameter_count p } ∷
-    record { which = Extras; most = 256; count = p.extras } ∷ []
+amounts p = of_nodes p ∷ of_functions p ∷ of_parameters p ∷ of_extras p ∷ []
 
 abbrev pub of_structs : Program → Count
 of_structs p = record { which = StructBytes; most = 65536; count = struct_bytes p }
 
+abbrev pub of_frames : Program → Count
+of_frames p = record { which = FrameBytes; most = 524288; count = frame_bytes p }
+
+abbrev pub of_globals : Program → Count
+of_globals p = record { which = GlobalBytes; most = 33554432; count = global_bytes p }
+
+abbrev pub of_names : ℕ → Count
+of_names longest = record { which = NameBytes; most = 255; count = longest }
+
 abbrev pub rest : Program → ℕ → List Count
-rest p longest =
-    record { which = FrameBytes; most = 524288; count = frame_bytes p } ∷
-    record { which = GlobalBytes; most = 33554432; count = global_bytes p } ∷
-    record { which = NameBytes; most = 255; count = longest } ∷ []
+rest p longest = of_frames p ∷ of_globals p ∷ of_names longest ∷ []
 
 abbrev pub counts : Program → ℕ → List Count
 counts p longest = amounts p ++ of_structs p ∷ rest p longest

@@ -1,4 +1,4 @@
-ghost use Rattle.std.specs.Prelude.{◌≡◌};
+ghost use Rattle.std.specs.Prelude.{◌≡◌, [], ◌∷◌};
 ghost use Rattle.ec_limits.specs.Limits.{first_passed};
 
 use ec_report::LimitKind;
@@ -25,19 +25,16 @@ impl Count {
     {
         Count { which, most, count }
     }
-}
-
-/// The first count that passes its number.
-pub fn first_passed(counts: &[Count]) -> Option<Passed>
-    ensures { result ≡ first_passed counts.now }
-{
-    for count in counts {
-        if count.count > count.most {
+    /// This count, where it passes its number.
+    pub fn passed(self) -> Option<Passed>
+        ensures { result ≡ first_passed (self ∷ []) }
+    {
+        if self.count > self.most {
             return Some(Passed {
-                which: count.which,
-                count: count.count,
+                which: self.which,
+                count: self.count,
             });
         }
+        None
     }
-    None
 }
