@@ -1,0 +1,1 @@
+//! What holds of places and codes, over every signature. These take no step.
