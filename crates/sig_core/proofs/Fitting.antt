@@ -1,13 +1,13 @@
 -- Registers and bytes that arguments took, as the machine counts them.
-use Rattle.std.proofs.Common.{◌≡◌, ℕ, zero, suc, ◌+◌, ◌*◌, ◌/◌, ◌<◌, ◌≤◌, ◌⊎◌, min, Bool, true, false, cond, leb, List, take, length, get_or, refl, sym, ap, ◌∙◌, subst, add-one, arith, inl, inr, ⊎_elim}
-use Rattle.std.specs.List.{All, slice_index_or}
+use Rattle.std.proofs.Common.{◌≡◌, ℕ, ◌+◌, ◌*◌, ◌/◌, ◌<◌, ◌≤◌, min, Bool, true, false, cond, leb, List, take, length, refl, sym, ap, ◌∙◌, subst, add-one, arith, ⊎_elim}
+use Rattle.std.specs.List.{All}
 use Rattle.std.proofs.lemmas.Bool.{le-leb, lt-leb, leb-true, lt-ltb, le-ltb, cases_lt}
 use Rattle.std.proofs.lemmas.List.Sums.{sum_by_more}
 use Rattle.sig_core.specs.declared.classes.Class.{Class}
 use Rattle.sig_core.specs.declared.classes.Class.TheVariants.{Void, Word, Agg}
 use Rattle.sig_core.specs.declared.places.Slot.{Slot}
 use Rattle.sig_core.specs.Signatures.{IsArgument}
-use Rattle.sig_core.specs.Registers.{ec_words, words_of, argument, is_in_registers, stack_words, in_registers, on_stack, ec_place}
+use Rattle.sig_core.specs.Registers.{ec_words, words_of, argument, is_in_registers, stack_words, in_registers, on_stack}
 
 -- whether words fit behind others is told by the registers that are taken
 pub fits_same : (total w : ℕ) → 1 ≤ w → leb (min 8 total + w) 8 ≡ leb (total + w) 8

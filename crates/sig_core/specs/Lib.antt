@@ -3,3 +3,4 @@ pub mod Places
 pub mod Slots
 pub mod Registers
 pub mod Codes
+pub mod Rows

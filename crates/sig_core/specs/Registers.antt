@@ -5,7 +5,7 @@
 -- larger struct the address is passed. What no longer fits goes wholly to the stack, in words of 8 bytes, and no later
 -- argument takes a register. A result of at most 16 bytes comes in x0 and x1; for a larger one the caller gives the
 -- address in x8.
-use Rattle.std.specs.Prelude.{ℕ, zero, suc, ◌+◌, ◌*◌, ◌/◌, Bool, true, false, nat_lt, nat_le, if◌then◌else◌, List, length, take}
+use Rattle.std.specs.Prelude.{ℕ, zero, suc, ◌+◌, ◌*◌, ◌/◌, Bool, false, nat_lt, nat_le, if◌then◌else◌, List, length, take}
 use Rattle.std.specs.List.{sum_by, slice_index_or}
 use Rattle.sig_core.specs.declared.classes.Class.{Class}
 use Rattle.sig_core.specs.declared.classes.Class.TheVariants.{Void, Word, Agg}

@@ -6,7 +6,7 @@
 -- comes in rax, and every other one through the hidden pointer.
 -- Variadic Arm64EC calls (Microsoft, "Overview of ARM64EC ABI conventions", "Variadic functions", in this project's
 -- profile): the same slots, whose registers are x0 to x3 there, and slot i from 4 on at 8*(i - 4); the result in x0.
-use Rattle.std.specs.Prelude.{ℕ, zero, suc, ◌+◌, ◌-◌, ◌*◌, Bool, nat_lt, if◌then◌else◌, List, length}
+use Rattle.std.specs.Prelude.{ℕ, zero, suc, ◌+◌, ◌-◌, ◌*◌, nat_lt, if◌then◌else◌, List, length}
 use Rattle.std.specs.List.{slice_index_or}
 use Rattle.reg_map.specs.declared.registers.X64Reg.TheVariants.{Rax, Rcx, Rdx, R8, R9}
 use Rattle.reg_map.specs.Table.{arm_number}
@@ -24,6 +24,10 @@ use Rattle.sig_core.specs.Places.{placed_by}
 -- the slots before the first argument: that of the hidden pointer, if there is one
 abbrev pub hidden_slots : Class → ℕ
 hidden_slots c = if is_by_pointer c then 1 else 0
+
+-- the slots of a call
+abbrev pub slots_of : Signature → ℕ → ℕ
+slots_of s extras = hidden_slots s.result + length (all_args s extras)
 
 -- the Arm64 numbers of rcx, rdx, r8 and r9
 abbrev pub slot_register : ℕ → ℕ

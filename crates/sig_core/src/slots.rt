@@ -123,13 +123,9 @@ pub fn place_x64(alloc: Global, s: &Signature, extras: u32) -> Result<Placed, Al
     ensures { IfOk result (λ p. p ≡ x64_placement s.now extras) }
 {
     let args = all_args(alloc, s, extras)?;
-    placed_in_slots(
-        alloc,
-        0,
-        &args,
-        hidden_slots(s.result),
-        x64_result(s.result),
-    )
+    let hidden = hidden_slots(s.result);
+    let back = x64_result(s.result);
+    placed_in_slots(alloc, 0, &args, hidden, back)
 }
 
 /// The places of a call of a variadic Arm64EC function: the slots of an x64 call, without home space. The stack
@@ -141,11 +137,7 @@ pub fn place_ec_variadic(alloc: Global, s: &Signature, extras: u32) -> Result<Pl
     ensures { IfOk result (λ p. p ≡ variadic_placement s.now extras) }
 {
     let args = all_args(alloc, s, extras)?;
-    placed_in_slots(
-        alloc,
-        4,
-        &args,
-        hidden_slots(s.result),
-        variadic_result(s.result),
-    )
+    let before = hidden_slots(s.result);
+    let back = variadic_result(s.result);
+    placed_in_slots(alloc, 4, &args, before, back)
 }

@@ -1,4 +1,4 @@
-use Rattle.std.proofs.Common.{◌≡◌, ◌+◌, ◌*◌, take, get_or, ap, ◌∙◌, arith}
+use Rattle.std.proofs.Common.{◌*◌, take, ap, ◌∙◌, arith}
 use Rattle.sig_core.specs.Places.{with_place}
 use Rattle.sig_core.specs.Registers.{words_of, stack_words, argument, ec_place}
 use Rattle.sig_core.proofs.Steps.{placed_more}

@@ -1,4 +1,4 @@
-use Rattle.std.proofs.Common.{◌≡◌, ◌+◌, get_or, ap, ◌∙◌, arith}
+use Rattle.std.proofs.Common.{get_or, ap, ◌∙◌, arith}
 use Rattle.sig_core.specs.declared.classes.Class.TheVariants.{Void}
 use Rattle.sig_core.specs.Places.{with_place}
 use Rattle.sig_core.specs.Slots.{slot_place, argument_place}
