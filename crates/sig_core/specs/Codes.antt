@@ -1,6 +1,6 @@
 -- The code of a signature, as names of thunks have it (after LLVM's names of Arm64EC thunks, without its marks of
--- alignment): that of the result, `$`, and those of the arguments in order: `v` for no value and for no argument, `i8` for a word,
--- `m` and its bytes for a struct, and last `$varargs` where the signature is variadic.
+-- alignment): that of the result, `$`, and those of the arguments in order, with `v` for no value and for no argument,
+-- `i8` for a word, and `m` and its bytes for a struct; last comes `$varargs` where the signature is variadic.
 use Rattle.std.specs.Prelude.{ℕ, Bool, true, false, List, [], ◌∷◌, ◌++◌, codes, decimal}
 use Rattle.std.specs.List.{flat_map}
 use Rattle.sig_core.specs.declared.classes.Class.{Class}

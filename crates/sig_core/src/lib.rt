@@ -12,6 +12,8 @@ mod codes;
 pub mod laws;
 mod places;
 mod registers;
+#[cfg(test)]
+mod rows;
 mod slots;
 
 pub use classes::{Class, Signature, class_of};
