@@ -1,9 +1,9 @@
 -- Places that take the registers and the bytes from one number on to the next argument's.
-use Rattle.std.proofs.Common.{◌≡◌, ℕ, zero, suc, ◌<◌, ◌≤◌, max, Some, slice_get, sym, ap, ◌∙◌, subst, add-one, arith, ⊎_elim}
+use Rattle.std.proofs.Common.{◌≡◌, ℕ, zero, suc, ◌<◌, ◌≤◌, max, Some, length, slice_get, sym, ap, ◌∙◌, subst, add-one, arith, ⊎_elim}
 use Rattle.std.proofs.lemmas.Bool.{cases_lt}
 use Rattle.std.proofs.lemmas.List.Sums.{fold_push}
 use Rattle.std.proofs.lemmas.List.FromFn.{length-map-range_with_len, get_or-map-range_with_len}
-use Rattle.std.proofs.lemmas.Option.{slice_get_within, get_or_from_slice_get}
+use Rattle.std.proofs.lemmas.Option.{slice_get_within, slice_get-get_or, get_or_from_slice_get}
 use Rattle.sig_core.specs.declared.places.Slot.{Slot}
 use Rattle.sig_core.specs.declared.places.Slot.TheVariants.{Reg, RegPointer, Stack, StackPointer}
 use Rattle.sig_core.specs.Places.{end_of, stack_of, places, HasRegister, HasByte, AreApart, AreWithin}
@@ -17,6 +17,15 @@ place_within place n i a e = let h = slice_get_within (places place n) i a e in 
 pub place_is : (place : ℕ → Slot) (n i : ℕ) (a : Slot) → slice_get (places place n) i ≡ Some a → a ≡ place i
 place_is place n i a e =
     sym (get_or_from_slice_get (places place n) i a a e) ∙ get_or-map-range_with_len place 0 n i i a (place_within place n i a e) (omega arith)
+
+pub places_count : (place : ℕ → Slot) (n : ℕ) → length (places place n) ≡ n
+places_count place n = length-map-range_with_len place 0 n
+
+pub place_at : (place : ℕ → Slot) (n i : ℕ) → i < n → slice_get (places place n) i ≡ Some (place i)
+place_at place n i h =
+    let l = places_count place n in
+    let within : i < length (places place n) = omega arith in
+    slice_get-get_or (places place n) i (place i) within ∙ ap (λ s. Some s) (get_or-map-range_with_len place 0 n i i (place i) h (omega arith))
 
 -- ---- the end of the stack
 

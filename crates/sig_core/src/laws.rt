@@ -5,11 +5,18 @@ ghost use Rattle.sig_core.specs.declared.classes.Signature.{Signature};
 ghost use Rattle.sig_core.specs.declared.places.ResultPlace.{ResultPlace};
 ghost use Rattle.sig_core.specs.declared.places.Slot.{Slot};
 ghost use Rattle.sig_core.specs.Codes.{signature_code};
-ghost use Rattle.sig_core.specs.Places.{AreApart, AreWithin, HasByte, HasRegister};
+ghost use Rattle.sig_core.specs.Places.{placed_by, AreApart, AreWithin, HasByte, HasRegister};
 ghost use Rattle.sig_core.specs.Registers.{words_of, stack_words, ec_placement};
 ghost use Rattle.sig_core.specs.Rows.{five_words, five_words_on_x64, five_words_in_ec, late_struct, late_struct_in_ec, counted_sum, counted_sum_in_ec};
 ghost use Rattle.sig_core.specs.Signatures.{Allowed};
 ghost use Rattle.sig_core.specs.Slots.{slots_of, x64_placement, variadic_placement};
+
+/// Every placement has a place for each argument, that of its number.
+pub fn place_laws()
+    ensures count { (place : ℕ → Slot) (back : ResultPlace) (n : ℕ) → length (placed_by place back n).args ≡ n }
+    ensures each { (place : ℕ → Slot) (back : ResultPlace) (n i : ℕ) → i < n
+        → slice_get (placed_by place back n).args i ≡ Some (place i) }
+{}
 
 /// The places of an x64 call.
 pub fn x64_laws()
