@@ -8,6 +8,10 @@ use crate::value::Value;
 use c_types::{FieldDef, Ty, Types};
 use std::alloc::{AllocError, Global};
 
+/// A value is kept as a tree, which is made, copied and let go by recursion: as many levels of it as a stack of 8 MiB
+/// holds for certain.
+const LEVELS: u64 = 4096;
+
 /// As many places as a `u32` can name.
 const PLACES: u64 = 1 << 32;
 
@@ -38,12 +42,13 @@ fn zero_fields(
     types: &Types,
     fields: &[FieldDef],
     depth: u64,
+    levels: u64,
 ) -> Result<Parts<Value>, AllocError>
     ensures { IfOk result (λ parts. parts ≡ map (zero_field (zero_within depth types.now)) fields.now) }
 {
     let mut parts = Parts::new(alloc);
     for field in fields {
-        parts.push(zero_at(alloc, types, field.ty, depth)?)?;
+        parts.push(zero_at(alloc, types, field.ty, depth, levels)?)?;
     }
     Ok(parts)
 }
@@ -54,11 +59,12 @@ fn zero_parts(
     types: &Types,
     place: u32,
     depth: u64,
+    levels: u64,
 ) -> Result<Parts<Value>, AllocError>
     ensures { IfOk result (λ parts. parts ≡ zero_struct (zero_within depth types.now) (slice_get types.now.structs place)) }
 {
     match types.structs.get(place as usize) {
-        Some(definition) => zero_fields(alloc, types, definition.fields.as_slice(), depth),
+        Some(definition) => zero_fields(alloc, types, definition.fields.as_slice(), depth, levels),
         None => Ok(Parts::new(alloc)),
     }
 }
@@ -70,44 +76,63 @@ fn zero_row(
     place: u32,
     count: u64,
     depth: u64,
+    levels: u64,
 ) -> Result<Parts<Value>, AllocError>
     ensures { IfOk result (λ parts. parts ≡ replicate count (zero_element (zero_within depth types.now) (slice_get types.now.tys place))) }
 {
     match types.tys.get(place as usize) {
         Some(element) => {
-            let element = zero_at(alloc, types, *element, depth)?;
+            let element = zero_at(alloc, types, *element, depth, levels)?;
             row(alloc, &element, count)
         }
         None => row(alloc, &Value::Number(0), count),
     }
 }
 
-/// The zero of a type whose parts are nested less deep than `depth`.
+/// The zero of a type whose parts are nested less deep than `depth`; want of memory where they are nested deeper than
+/// so many levels.
 #[cycle(zero)]
 #[tactic(auto, using(crate::proofs::ZeroLaws::zero_step, crate::proofs::ZeroLaws::zero_base))]
-fn zero_at(alloc: Global, types: &Types, ty: Ty, depth: u64) -> Result<Value, AllocError>
+fn zero_at(
+    alloc: Global,
+    types: &Types,
+    ty: Ty,
+    depth: u64,
+    levels: u64,
+) -> Result<Value, AllocError>
     ensures { IfOk result (λ v. v ≡ zero_within depth types.now ty) }
 {
     if depth == 0 {
         return Ok(Value::Number(0));
     }
+    if levels == 0 {
+        return Err(AllocError);
+    }
     match ty {
         Ty::Void | Ty::Int(_) => Ok(Value::Number(0)),
         Ty::Ptr(_) | Ty::Fun(_) => Ok(Value::Null),
-        Ty::Struct(place) => Ok(Value::Aggregate(zero_parts(alloc, types, place, depth - 1)?)),
+        Ty::Struct(place) => Ok(Value::Aggregate(zero_parts(
+            alloc,
+            types,
+            place,
+            depth - 1,
+            levels - 1,
+        )?)),
         Ty::Array(place, count) => Ok(Value::Aggregate(zero_row(
             alloc,
             types,
             place,
             count,
             depth - 1,
+            levels - 1,
         )?)),
     }
 }
 
-/// The zero of a type: 0, null, or the zeros of all parts.
+/// The zero of a type: 0, null, or the zeros of all parts. Want of memory also where its parts are nested deeper than
+/// 4,096 levels.
 pub fn zero(alloc: Global, types: &Types, ty: Ty) -> Result<Value, AllocError>
     ensures { IfOk result (λ v. v ≡ zero_of types.now ty) }
 {
-    zero_at(alloc, types, ty, depth(types))
+    zero_at(alloc, types, ty, depth(types), LEVELS)
 }
