@@ -34,7 +34,7 @@ use Rattle.parse_decl.proofs.ParamsLaws.{BeginsType, TypeBegins, base_begins}
 use Rattle.parse_item.specs.declared.fields.FieldsState.{FieldsState}
 use Rattle.parse_item.specs.declared.fields.FieldsState.TheVariants.{Between, Typing, Declaring}
 use Rattle.parse_item.specs.ItemGrammar.{field_of, IsDecls, first_decl, next_decl, IsField, a_field, IsFields, first_field, next_field}
-use Rattle.parse_item.specs.DeclarationMachines.{FieldsSaid, field_mark, field_end, field_declared, field_typed, between_mark, between_step, fields_step}
+use Rattle.parse_item.specs.DeclarationMachines.{FieldsSaid, field_mark, field_end, field_declared, field_typed, begin_field, between_mark, between_step, fields_step}
 use Rattle.item_laws.proofs.TypedLaws.{IsTyped, typed_lands, declarator_lands, type_goes_on}
 
 abbrev go : List Terminal → FieldsState → Outcome FieldsState (List Field)
@@ -88,6 +88,7 @@ decls_land fs {y = y} t b q f (next_decl {ds = ds} {s = s} {b = c} e d) h =
     ∙ declarator_more fs y ds t b q d h
 
 between_begins : (k : Sort) (t : Terminal) (fs : List Field) → BeginsType k → between_step t k fs ≡ field_typed t fs (type_step t type_state.Opening)
+unfolding begin_field
 between_begins (sort.Name x) t fs h = refl
 between_begins (sort.Word v) t fs h = refl
 between_begins _ t fs h = absurd h
@@ -194,6 +195,7 @@ between_mark_told m.CloseBrace s f = brace_told s f
 between_mark_told _ s f = tt
 
 between_told : (k : Sort) (s : Span) {z : List Terminal} {fs : List Field} (a : List Terminal) → Before z fs (term k s ∷ a) → FieldsTold (between_step (term k s) k fs) z (term k s) a
+unfolding begin_field
 between_told (sort.Mark k) s a f = between_mark_told k s f
 between_told k s a f = typed_told (term k s) type_state.Opening a f begun (type_step (term k s) type_state.Opening) refl
 
@@ -226,6 +228,7 @@ typing_ends : (fs : List Field) (x : TypeState) (s : Span) → CanEnd FieldsStat
 typing_ends fs x s = type_goes_on fields_step (Typing fs) (in_decl fs []) (decl_over fs []) (field_types fs) (mark m.CloseBrace s) (λ y v. declaring_ends fs y [] v s) x
 
 pub fields_ends : (st : FieldsState) (s : Span) → CanEnd FieldsState (List Field) fields_step st (mark m.CloseBrace s)
+unfolding begin_field
 fields_ends (Between fs) s =
     let x = type_state.Words somewhere (int_words.Whole I32) in
     ends_after fields_step (word w.Int somewhere) (Between fs) (Typing fs x) (mark m.CloseBrace s) refl (typing_ends fs x s)

@@ -57,7 +57,7 @@ use Rattle.parse_item.specs.declared.units.UnitState.{UnitState}
 use Rattle.parse_item.specs.ItemGrammar.{head_of, unit_of, IsFields, first_field, next_field, IsField, a_field, IsDecls, first_decl, next_decl, IsGlobals, IsHead, a_head, IsItem, a_typedef, a_struct, an_extern, globals, a_function, a_definition, raised, lowered, IsItems, no_items, another_item, IsUnit, a_unit}
 use Rattle.parse_item.specs.ItemParts.{GlobalsPart, ItemPart, ItemsPart, UnitPart, no_globals, cap_globals, cap_item, cap_items, cap_unit, globals_part, define_part, with_item, unit_part}
 use Rattle.parse_item.specs.DeclarationMachines.{fields_step, typedef_step, globals_step}
-use Rattle.parse_item.specs.UnitMachine.{ItemSaid, typedef_said, fields_said, extern_end, extern_declared, extern_typed, name_step, typed, globals_said, first_global, named_mark, named_step, params_said, head_mark, body_said, tagged_type, tagged_mark, tagged_step, item_begin, unit_state, unit_start, unit_said, unit_step, unit_finish}
+use Rattle.parse_item.specs.UnitMachine.{ItemSaid, typedef_said, fields_said, extern_end, extern_declared, extern_typed, name_step, typed, begin_typed, globals_said, first_global, named_mark, named_step, params_said, head_mark, body_said, tagged_type, tagged_mark, tagged_step, item_begin, unit_state, unit_start, unit_said, unit_step, unit_finish}
 use Rattle.item_laws.specs.Units.{RunsTo}
 use Rattle.item_laws.proofs.ItemPartLaws.{low-cap, head-cap, no_globals-cap, no_items-cap, globals_part-cap, define_part-cap, with_item-cap, unit_part-cap}
 use Rattle.item_laws.proofs.TypedLaws.{IsTyped, typed_lands}
@@ -121,6 +121,7 @@ module _ (n : ℕ) (low : 4 ≤ n) (body_complete : (xs : List BlockItem) (s : S
     -- ---- where the type of an item begins
 
     width_begin : {v : _} {s : Span} {a b : List Terminal} → IsWidth v s a b → go a between ≡ go a (at (Typing type_state.Opening))
+    unfolding begin_typed
     width_begin char = refl
     width_begin short = refl
     width_begin short_int = refl
@@ -129,6 +130,7 @@ module _ (n : ℕ) (low : 4 ≤ n) (body_complete : (xs : List BlockItem) (s : S
     width_begin long_long_int = refl
 
     int_begin : {i : _} {s : Span} {a b : List Terminal} → IsInt i s a b → go a between ≡ go a (at (Typing type_state.Opening))
+    unfolding begin_typed
     int_begin (plain d) = width_begin d
     int_begin (with_signed d) = refl
     int_begin (with_unsigned d) = refl
@@ -149,6 +151,7 @@ module _ (n : ℕ) (low : 4 ≤ n) (body_complete : (xs : List BlockItem) (s : S
     tagged_no_brace t sort.Unknown s x h = refl
 
     base_begin : {y : Base} {a c : List Terminal} → Next c → IsBase y a c → go a between ≡ go a (at (Typing type_state.Opening))
+    unfolding begin_typed tagged_type
     base_begin f void = refl
     base_begin f (integer d) = int_begin d
     base_begin f typedef = refl
@@ -181,6 +184,7 @@ module _ (n : ℕ) (low : 4 ≤ n) (body_complete : (xs : List BlockItem) (s : S
     named_no_paren t sort.Unknown y ss x h = refl
 
     global_begin : (y : Base) (ss : List Span) (x : Name) {a : List Terminal} → Behind a → go a (at (Named y ss x)) ≡ go a (at (Globals y (globals_state.Declaring no_globals (decl_state.Named (decl ss x [])))))
+    unfolding first_global
     global_begin y ss x f =
         ap (λ l. go l (at (Named y ss x))) f.is
         ∙ ap (λ v. after (unit_said ps v) (go f.others) (f.first ∷ f.others)) (named_no_paren f.first f.first.sort y ss x f.no_paren)

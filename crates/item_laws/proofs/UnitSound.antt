@@ -56,7 +56,7 @@ use Rattle.parse_item.specs.declared.units.UnitState.{UnitState}
 use Rattle.parse_item.specs.ItemGrammar.{head_of, unit_of, IsFields, IsGlobals, IsPointerHead, IsHead, a_head, IsItem, a_typedef, a_struct, an_extern, globals, a_function, a_definition, IsItems, no_items, another_item, IsUnit, a_unit}
 use Rattle.parse_item.specs.ItemParts.{GlobalsPart, ItemPart, ItemsPart, UnitPart, no_globals, cap_item, cap_items, globals_part, define_part, with_item, unit_part}
 use Rattle.parse_item.specs.DeclarationMachines.{fields_step, typedef_step, adjustor_step, globals_step}
-use Rattle.parse_item.specs.UnitMachine.{ItemSaid, typedef_said, adjustor_said, fields_said, fields_ended, extern_end, extern_declared, extern_typed, name_step, typed, globals_said, first_global, named_mark, named_step, params_said, head_mark, head_step, body_said, tag_step, tagged_type, tagged_mark, tagged_step, item_word, item_begin, item_step, unit_state, unit_start, unit_said, said_of, unit_step, finish_of, unit_finish}
+use Rattle.parse_item.specs.UnitMachine.{ItemSaid, typedef_said, adjustor_said, fields_said, fields_ended, extern_end, extern_declared, extern_typed, name_step, typed, begin_typed, globals_said, first_global, named_mark, named_step, params_said, head_mark, head_step, body_said, tag_step, tagged_type, tagged_mark, tagged_step, item_word, item_begin, item_step, unit_state, unit_start, unit_said, said_of, unit_step, finish_of, unit_finish}
 use Rattle.item_laws.specs.Units.{IsUnitRead}
 use Rattle.item_laws.proofs.ItemPartLaws.{low-cap, head-cap, no_items-cap, globals_part-cap, define_part-cap, with_item-cap, unit_part-cap}
 use Rattle.item_laws.proofs.FieldLaws.{fields_sound}
@@ -220,6 +220,7 @@ module _ (n : ℕ) (low : 4 ≤ n) (body_sound : (st : BodyState) (p : Body) (t 
 
   first_told : (t : Terminal) {z : List Terminal} {y : Base} {ss : List Span} (x : List ℕ) (s : Span) (a : List Terminal) → IsTypeName (type_name y ss) z (named x s ∷ t ∷ a) →
       ItemTold (first_global n t y ss (name_of x s)) z a
+  unfolding first_global
   first_told t x s a (type_named {b = y} {ss = ss} {c = c} f i) =
       let st = globals_state.Declaring no_globals (decl_state.Named (decl ss (name_of x s) [])) in
       globals_step_told t y a f (globals_step n t st) (globals_told n low_one t a (globals_begun n low_one i))
@@ -285,6 +286,7 @@ module _ (n : ℕ) (low : 4 ≤ n) (body_sound : (st : BodyState) (p : Body) (t 
   struct_came s x t a e = subst (λ l. Came type_step type_state.Opening l (type_state.Stars (base.Struct s (name_of x t)) []) a) (sym e) (taken (taken begun refl) refl)
 
   tagged_type_told : (k : Terminal) {z : List Terminal} (s : Span) (x : List ℕ) (t : Span) (a : List Terminal) → z ≡ word w.Struct s ∷ named x t ∷ k ∷ a → ItemTold (tagged_type k s (name_of x t)) z a
+  unfolding tagged_type
   tagged_type_told k s x t a e =
       typed_told k (type_state.Stars (base.Struct s (name_of x t)) []) a (struct_came s x t (k ∷ a) e) (type_step k (type_state.Stars (base.Struct s (name_of x t)) [])) refl
 
@@ -302,6 +304,7 @@ module _ (n : ℕ) (low : 4 ≤ n) (body_sound : (st : BodyState) (p : Body) (t 
   opening_told t a = typed_told t type_state.Opening a begun (type_step t type_state.Opening) refl
 
   word_told : (k : Word) (s : Span) (a : List Terminal) → ItemTold (item_word (word k s) k) (word k s ∷ a) a
+  unfolding begin_typed
   word_told w.Typedef s a = in_typedef s refl begun
   word_told w.Struct s a = in_tag s refl
   word_told w.Extern s a = in_extern_type s refl begun
@@ -309,6 +312,7 @@ module _ (n : ℕ) (low : 4 ≤ n) (body_sound : (st : BodyState) (p : Body) (t 
   word_told k s a = opening_told (word k s) a
 
   begin_told : (k : Sort) (s : Span) (a : List Terminal) → ItemTold (item_begin (term k s) k) (term k s ∷ a) a
+  unfolding begin_typed
   begin_told (sort.Word k) s a = word_told k s a
   begin_told k s a = opening_told (term k s) a
 

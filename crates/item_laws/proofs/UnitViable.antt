@@ -47,7 +47,7 @@ use Rattle.parse_item.specs.declared.units.UnitState.{UnitState}
 use Rattle.parse_item.specs.ItemGrammar.{head_of}
 use Rattle.parse_item.specs.ItemParts.{ItemPart, ItemsPart, UnitPart, no_globals, globals_part, define_part, with_item, unit_part, without_init}
 use Rattle.parse_item.specs.DeclarationMachines.{fields_step, typedef_step, adjustor_step, globals_step}
-use Rattle.parse_item.specs.UnitMachine.{name_step, unit_state, unit_start, unit_said, unit_step, unit_finish}
+use Rattle.parse_item.specs.UnitMachine.{name_step, first_global, unit_state, unit_start, unit_said, unit_step, unit_finish}
 use Rattle.item_laws.specs.Units.{RunsTo, CanFinish}
 use Rattle.item_laws.proofs.FieldLaws.{fields_ends}
 use Rattle.item_laws.proofs.TypedefLaws.{typedef_ends}
@@ -135,6 +135,7 @@ module _ (n : ℕ) (low : 4 ≤ n) (body_sound : (st : BodyState) (p : Body) (t 
         ends_with_part (globals_step n) (Globals y) (λ gs k. over n ps (globals_part n y gs)) (λ k z. globals_in n ps y k (globals_step n k z)) x (mark m.Semicolon somewhere) c (globals_part n y c.part_of) refl
 
     named_item : (y : Base) (ss : List Span) (x : Name) → ItemEnds (Named y ss x)
+    unfolding first_global
     named_item y ss x = token_last (mark m.Semicolon somewhere) (Named y ss x) (globals_part n y (without_init no_globals (decl ss x []))) refl
 
     typing_item : (x : TypeState) → ItemEnds (Typing x)

@@ -69,6 +69,11 @@ field_typed t fs (More x) = More (fields.Typing fs x)
 field_typed t fs (Done n) = field_declared t.sort fs n.base [] (decl_step t (decl_state.Stars n.stars))
 field_typed t fs Bad = Bad
 
+-- The first token of a field's type. This word doesn't compute by itself: the term that a machine computes to
+-- at a token that isn't known is long.
+unfoldable pub begin_field : Terminal → List Field → FieldsSaid
+begin_field t fs = field_typed t fs (type_step t type_state.Opening)
+
 abbrev pub between_mark : Mark → List Field → FieldsSaid
 between_mark m.CloseBrace fs = cond (is_empty fs) Bad (Done fs)
 between_mark _ fs = Bad
@@ -76,7 +81,7 @@ between_mark _ fs = Bad
 -- a field is to begin, or the fields end
 abbrev pub between_step : Terminal → Sort → List Field → FieldsSaid
 between_step t (sort.Mark k) fs = between_mark k fs
-between_step t _ fs = field_typed t fs (type_step t type_state.Opening)
+between_step t _ fs = begin_field t fs
 
 abbrev pub fields_step : Terminal → FieldsState → FieldsSaid
 fields_step t (fields.Between fs) = between_step t t.sort fs

@@ -103,8 +103,9 @@ globals_said n y (More x) = More (Globals y x)
 globals_said n y (Done gs) = Done (globals_part n y gs)
 globals_said n y Bad = Bad
 
--- the first global, whose name has been read
-abbrev pub first_global : ℕ → Terminal → Base → List Span → Name → ItemSaid
+-- The first global, whose name has been read. Words like this one don't compute by themselves: the terms that
+-- a machine computes to at a token that isn't known are long.
+unfoldable pub first_global : ℕ → Terminal → Base → List Span → Name → ItemSaid
 first_global n t y ss x = globals_said n y (globals_step n t (globals.Declaring no_globals (decl_state.Named (decl ss x []))))
 
 abbrev pub named_mark : ℕ → Terminal → Mark → Base → List Span → Name → ItemSaid
@@ -140,7 +141,8 @@ abbrev pub tag_step : Sort → Span → Span → ItemSaid
 tag_step (sort.Name x) s u = More (Tagged u (name_of x s))
 tag_step _ s u = Bad
 
-abbrev pub tagged_type : Terminal → Span → Name → ItemSaid
+-- behind `struct ID`, as the type of globals or a function
+unfoldable pub tagged_type : Terminal → Span → Name → ItemSaid
 tagged_type t s x = typed t.sort t.span (type_step t (type_state.Stars (base.Struct s x) []))
 
 abbrev pub tagged_mark : Terminal → Mark → Span → Name → ItemSaid
@@ -152,17 +154,21 @@ abbrev pub tagged_step : Terminal → Sort → Span → Name → ItemSaid
 tagged_step t (sort.Mark k) s x = tagged_mark t k s x
 tagged_step t k s x = tagged_type t s x
 
+-- the first token of a type of globals or a function
+unfoldable pub begin_typed : Terminal → ItemSaid
+begin_typed t = typed t.sort t.span (type_step t type_state.Opening)
+
 abbrev pub item_word : Terminal → Word → ItemSaid
 item_word t w.Typedef = More (Typedef t.span (typedef.Typing type_state.Opening))
 item_word t w.Struct = More (Tag t.span)
 item_word t w.Extern = More (ExternType t.span type_state.Opening)
 item_word t w.Adjustor = More (Adjustor t.span adjustor.Opening)
-item_word t v = typed t.sort t.span (type_step t type_state.Opening)
+item_word t v = begin_typed t
 
 -- the first token of an item
 abbrev pub item_begin : Terminal → Sort → ItemSaid
 item_begin t (sort.Word v) = item_word t v
-item_begin t k = typed t.sort t.span (type_step t type_state.Opening)
+item_begin t k = begin_typed t
 
 -- a token of an item; where the item is over, the token is its last
 abbrev pub item_step : ℕ → Terminal → ItemState → ItemSaid

@@ -69,7 +69,10 @@ fn comma(token: &Terminal, next: AdjustorState) -> AdjustorAnswer
 {
     match &token.sort {
         Sort::Mark(Mark::Comma) => Answer::More(next),
-        _ => Answer::Bad,
+        _ => {
+            drop(next);
+            Answer::Bad
+        }
     }
 }
 
@@ -135,7 +138,10 @@ fn ended(token: &Terminal, item: Item) -> AdjustorAnswer
 {
     match &token.sort {
         Sort::Mark(Mark::Semicolon) => Answer::Done(item),
-        _ => Answer::Bad,
+        _ => {
+            drop(item);
+            Answer::Bad
+        }
     }
 }
 

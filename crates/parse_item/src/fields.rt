@@ -1,7 +1,7 @@
 ghost use Rattle.std.specs.Prelude.{◌≡◌, IfOk};
 ghost use Rattle.parse_terms.specs.TypeNames.{type_step};
 ghost use Rattle.parse_terms.specs.Declarators.{decl_step};
-ghost use Rattle.parse_item.specs.DeclarationMachines.{field_end, field_declared, field_typed, between_step, fields_step};
+ghost use Rattle.parse_item.specs.DeclarationMachines.{field_end, field_declared, field_typed, begin_field, between_step, fields_step};
 
 use c_lex::Mark;
 use c_tree::{Base, Decl, Field};
@@ -84,6 +84,14 @@ fn typing(
     }
 }
 
+/// The first token of a field's type.
+#[tactic(auto, unfolding(crate::specs::DeclarationMachines::begin_field))]
+fn begin(alloc: Global, token: &Terminal, fields: Items<Field>) -> Result<FieldsAnswer, AllocError>
+    ensures { IfOk result (λ r. r ≡ begin_field token.now fields) }
+{
+    typing(alloc, token, fields, TypeState::Opening)
+}
+
 fn between(
     alloc: Global,
     token: &Terminal,
@@ -100,7 +108,7 @@ fn between(
             }
         }
         Sort::Mark(_) => Ok(Answer::Bad),
-        _ => typing(alloc, token, fields, TypeState::Opening),
+        _ => begin(alloc, token, fields),
     }
 }
 

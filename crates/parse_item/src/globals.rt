@@ -7,7 +7,7 @@ use crate::parts::{GlobalsPart, add_plain, add_valued};
 use c_lex::Mark;
 use c_tree::Decl;
 use hx_words::Items;
-use parse_decl::{InitFocus, InitState, step_init};
+use parse_decl::{InitFocus, InitPart, InitState, step_init};
 use parse_terms::{Answer, DeclState, Sort, Stack, Terminal, Verdict, step_decl};
 use std::alloc::{AllocError, Global};
 
@@ -76,6 +76,33 @@ fn declaring(
     }
 }
 
+/// A value takes a token.
+fn advance_init(
+    alloc: Global,
+    token: &Terminal,
+    so_far: InitState,
+) -> Result<Answer<InitState, InitPart>, AllocError>
+    ensures { IfOk result (λ r. r ≡ init_step 256 token.now so_far) }
+{
+    let mut so_far = so_far;
+    let verdict = step_init(alloc, token, &mut so_far);
+    match verdict {
+        Ok(Verdict::More) => Ok(Answer::More(so_far)),
+        Ok(Verdict::Done(init)) => {
+            drop(so_far);
+            Ok(Answer::Done(init))
+        }
+        Ok(Verdict::Bad) => {
+            drop(so_far);
+            Ok(Answer::Bad)
+        }
+        Err(AllocError) => {
+            drop(so_far);
+            Err(AllocError)
+        }
+    }
+}
+
 fn valued(
     alloc: Global,
     token: &Terminal,
@@ -85,14 +112,13 @@ fn valued(
 ) -> Result<GlobalsAnswer, AllocError>
     ensures { IfOk result (λ r. r ≡ global_valued token.now.sort globals decl (init_step 256 token.now so_far)) }
 {
-    let mut so_far = so_far;
-    match step_init(alloc, token, &mut so_far)? {
-        Verdict::More => Ok(Answer::More(GlobalsState::Valued(globals, decl, so_far))),
-        Verdict::Done(init) => {
+    match advance_init(alloc, token, so_far)? {
+        Answer::More(more) => Ok(Answer::More(GlobalsState::Valued(globals, decl, more))),
+        Answer::Done(init) => {
             let globals = add_valued(globals, decl, init)?;
             Ok(end_global(alloc, token, globals))
         }
-        Verdict::Bad => Ok(Answer::Bad),
+        Answer::Bad => Ok(Answer::Bad),
     }
 }
 

@@ -6,7 +6,7 @@ ghost use Rattle.parse_item.specs.BodyAnswers.{body_answer};
 ghost use Rattle.parse_stmt.specs.StmtMachine.{Says};
 ghost use Rattle.parse_item.specs.BodyVerdicts.{Answers};
 ghost use Rattle.parse_item.specs.DeclarationMachines.{fields_step, typedef_step, adjustor_step, globals_step};
-ghost use Rattle.parse_item.specs.UnitMachine.{typedef_said, adjustor_said, fields_said, fields_ended, extern_end, extern_declared, extern_typed, name_step, typed, globals_said, first_global, named_step, params_said, head_step, body_said, tag_step, tagged_step, item_begin, item_step};
+ghost use Rattle.parse_item.specs.UnitMachine.{typedef_said, adjustor_said, fields_said, fields_ended, extern_end, extern_declared, extern_typed, name_step, typed, globals_said, first_global, named_step, params_said, head_step, body_said, tag_step, tagged_type, tagged_step, begin_typed, item_begin, item_step};
 
 use crate::adjustors::{AdjustorState, step_adjustor};
 use crate::fields::{FieldsState, step_fields};
@@ -198,6 +198,7 @@ fn with_globals(
     }
 }
 
+#[tactic(auto, unfolding(crate::specs::UnitMachine::first_global))]
 fn with_first_global(
     alloc: Global,
     token: &Terminal,
@@ -352,6 +353,20 @@ fn with_tag(alloc: Global, token: &Terminal, word: Span) -> Result<ItemAnswer, A
     }
 }
 
+/// Behind a struct's tag, as a type of globals or a function.
+#[tactic(auto, unfolding(crate::specs::UnitMachine::tagged_type))]
+fn with_tagged_type(
+    alloc: Global,
+    token: &Terminal,
+    word: Span,
+    tag: Name,
+) -> Result<ItemAnswer, AllocError>
+    ensures { IfOk result (λ r. r ≡ tagged_type token.now word tag) }
+{
+    let base = Base::Struct(word, tag);
+    with_type(alloc, token, TypeState::Stars(base, Items::new(alloc)))
+}
+
 fn with_tagged(
     alloc: Global,
     token: &Terminal,
@@ -365,11 +380,16 @@ fn with_tagged(
             let first = FieldsState::Between(Items::new(alloc));
             Ok(Answer::More(ItemState::Fields(word, tag, first)))
         }
-        _ => {
-            let base = Base::Struct(word, tag);
-            with_type(alloc, token, TypeState::Stars(base, Items::new(alloc)))
-        }
+        _ => with_tagged_type(alloc, token, word, tag),
     }
+}
+
+/// The first token of a type of globals or a function.
+#[tactic(auto, unfolding(crate::specs::UnitMachine::begin_typed))]
+fn begin_type(alloc: Global, token: &Terminal) -> Result<ItemAnswer, AllocError>
+    ensures { IfOk result (λ r. r ≡ begin_typed token.now) }
+{
+    with_type(alloc, token, TypeState::Opening)
 }
 
 /// The first token of an item.
@@ -387,7 +407,7 @@ pub fn begin_item(
         Sort::Word(Word::Struct) => ItemState::Tag(span),
         Sort::Word(Word::Extern) => ItemState::ExternType(span, TypeState::Opening),
         Sort::Word(Word::Adjustor) => ItemState::Adjustor(span, AdjustorState::Opening),
-        _ => return with_type(alloc, token, TypeState::Opening),
+        _ => return begin_type(alloc, token),
     };
     Ok(Answer::More(state))
 }

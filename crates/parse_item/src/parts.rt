@@ -128,6 +128,7 @@ pub fn add_item(items: ItemsPart, item: ItemPart) -> Result<ItemsPart, AllocErro
     ensures { IfOk result (λ r. r ≡ with_item items item) }
 {
     let Capped::Built(list, m) = items else {
+        drop(item);
         return Ok(Capped::Deep);
     };
     let Capped::Built(item, n) = item else {

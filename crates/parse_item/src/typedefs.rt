@@ -34,7 +34,10 @@ fn opened(token: &Terminal, next: TypedefState) -> TypedefAnswer
 {
     match &token.sort {
         Sort::Mark(Mark::OpenParen) => Answer::More(next),
-        _ => Answer::Bad,
+        _ => {
+            drop(next);
+            Answer::Bad
+        }
     }
 }
 
@@ -43,7 +46,10 @@ fn starred(token: &Terminal, next: TypedefState) -> TypedefAnswer
 {
     match &token.sort {
         Sort::Mark(Mark::Star) => Answer::More(next),
-        _ => Answer::Bad,
+        _ => {
+            drop(next);
+            Answer::Bad
+        }
     }
 }
 
@@ -52,7 +58,10 @@ fn closed(token: &Terminal, next: TypedefState) -> TypedefAnswer
 {
     match &token.sort {
         Sort::Mark(Mark::CloseParen) => Answer::More(next),
-        _ => Answer::Bad,
+        _ => {
+            drop(next);
+            Answer::Bad
+        }
     }
 }
 
