@@ -416,7 +416,10 @@ fn word_at(mem: &Memory, offset: u64) -> u64
 /// Whether a row's instruction does what the emulator did.
 fn agrees(mem: &mut Memory, row: &[u64; 17]) -> bool {
     let mut cpu = cpu_at(row);
-    let Some(i) = decode(row[1] as u32) else {
+    let Ok(word) = u32::try_from(row[1]) else {
+        return false;
+    };
+    let Some(i) = decode(word) else {
         return false;
     };
     let event = step(&mut cpu, mem, &i);
