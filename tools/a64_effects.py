@@ -1,7 +1,7 @@
 #!/usr/bin/env python3
 """Runs A64 instructions in an emulator that others wrote.
 
-  a64_effects.py rows            prints the rows of crates/a64_rows/src/effects.rt
+  a64_effects.py rows            prints the rows of crates/isa_rows/src/a64_effects.rt
 
 Each case is one instruction, with x0 to x3, the flags and 32 bytes of memory before it; GNU as
 assembles it, and qemu-aarch64 (packages binutils-aarch64-linux-gnu and qemu-user) says what these

@@ -1,7 +1,7 @@
 #!/usr/bin/env python3
 """Compares the crate `a64_isa` with assemblers that others wrote.
 
-  a64_vectors.py rows            prints the rows of the table in crates/a64_rows/src/words.rt
+  a64_vectors.py rows            prints the rows of the table in crates/isa_rows/src/a64_words.rt
   a64_vectors.py compare [N] [SEED]
                                  N words (20,000 by default): what `decode` says of each, and the
                                  word that `encode` gives back, against GNU objdump's text

@@ -1,7 +1,7 @@
 #!/usr/bin/env python3
 """Reads objects by the rules of docs/OBJECTS.md, apart from the crates.
 
-    tools/coff_oracle.py            compares the table of crates/coff_rows/src/reading.rt with what is told here
+    tools/coff_oracle.py            compares the table of crates/object_rows/src/reading.rt with what is told here
     tools/coff_oracle.py FILE..     prints the object in each file, or its first refusal
 """
 import pathlib
@@ -205,8 +205,9 @@ def told(data):
 
 
 def compare():
-    text = (pathlib.Path(__file__).parent.parent / "crates/coff_rows/src/reading.rt").read_text()
-    sample = text[text.index("static SAMPLE"):]
+    rows = pathlib.Path(__file__).parent.parent / "crates/object_rows/src"
+    sample, text = (rows / "sample.rt").read_text(), (rows / "reading.rt").read_text()
+    sample = sample[sample.index("static SAMPLE"):]
     sample = sample[sample.index("= [") + 3:sample.index("];")]
     lines = [line.split("//")[0] for line in sample.split("\n")]
     data = bytes(int(n, 16) for n in re.findall(r"0x([0-9A-F]{2})\b", "\n".join(lines)))

@@ -1,7 +1,7 @@
 #!/usr/bin/env python3
 """Shows the object of the tests of `coff_write` to llvm-readobj.
 
-  coff_sample.py              reads the bytes in crates/coff_rows/src/writing.rt, and says whether
+  coff_sample.py              reads the bytes in crates/object_rows/src/sample.rt, and says whether
                               llvm-readobj, llvm-objdump and llvm-nm (package llvm-19, else llvm)
                               read all their parts without complaint
 
@@ -17,7 +17,7 @@ import subprocess
 import sys
 import tempfile
 
-TESTS = pathlib.Path(__file__).resolve().parent.parent / "crates/coff_rows/src/writing.rt"
+TESTS = pathlib.Path(__file__).resolve().parent.parent / "crates/object_rows/src/sample.rt"
 WANTED = [
     "SectionCount: 4",
     "SymbolCount: 5",

@@ -44,7 +44,7 @@ def readers():
 
 def written():
     """The file that the writer's test expects: headers, and the contents of four sections, each padded to 512 bytes."""
-    with open(os.path.join(HERE, "..", "crates", "pe_write_rows", "src", "files.rt")) as file:
+    with open(os.path.join(HERE, "..", "crates", "machine_rows", "src", "files.rt")) as file:
         text = file.read()
     out = b""
     for name in ("HEADERS", "CODE", "EC_CODE", "DATA", "BLOCKS"):

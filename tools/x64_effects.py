@@ -1,7 +1,7 @@
 #!/usr/bin/env python3
 """Runs x64 instructions on the processor of this machine.
 
-  x64_effects.py rows            prints the rows of crates/x64_rows/src/effects.rt
+  x64_effects.py rows            prints the rows of crates/isa_rows/src/x64_effects.rt
 
 Each case is one instruction, with rax, rcx, rdx, rbx, the flags and a word of memory before it; GNU as
 assembles it, and an x86-64 processor says what these are after it and where the code goes on. Flags that

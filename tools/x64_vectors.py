@@ -1,7 +1,7 @@
 #!/usr/bin/env python3
 """Spellings of x64 instructions by GNU as, as the rows of a test table.
 
-  x64_vectors.py              prints the rows of crates/x64_rows/src/spellings.rt
+  x64_vectors.py              prints the rows of crates/isa_rows/src/x64_spellings.rt
   x64_vectors.py --random N   prints a table of N random instructions instead
   x64_vectors.py --check      tells whether spellings.rt is what the assembler gives now
 
@@ -222,8 +222,9 @@ def main():
         return 0
     made = table(rows_of(Ends()))
     if "--check" in sys.argv:
-        path = os.path.join(os.path.dirname(__file__), "..", "crates", "x64_rows", "src", "spellings.rt")
-        squeeze = lambda s: re.sub(r"[\s,]+", "", re.sub(r"//.*", "", s))
+        path = os.path.join(os.path.dirname(__file__), "..", "crates", "isa_rows", "src", "x64_spellings.rt")
+        rows = lambda s: s[s.index("static SPELLINGS"):s.index("\n];")]
+        squeeze = lambda s: re.sub(r"[\s,]+", "", re.sub(r"//.*", "", rows(s)))
         same = squeeze(open(path).read()) == squeeze(made)
         print("the table is the assembler's" if same else "the table differs")
         return 0 if same else 1

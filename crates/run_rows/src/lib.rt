@@ -1,7 +1,0 @@
-//! Rows for the loader and the mixed machine.
-#![tactic(auto)]
-
-#[cfg(test)]
-mod loads;
-#[cfg(test)]
-mod machines;
