@@ -35,8 +35,9 @@ fn args_code(alloc: Global, args: &[Class]) -> Result<Vec<u8>, AllocError>
     Ok(code)
 }
 
-/// The part of a thunk's name that tells its signature: the result, `$`, and the arguments, with `v` for no value
-/// and for no argument, `i8` for a word, `m` and its bytes for a struct, and `$varargs` behind a variadic one.
+/// The part of a thunk's name that tells its signature: the result, `$`, and the arguments, with `v` for no
+/// value and for no argument, `i8` for a word, `m` and its bytes for a struct, and `$varargs` behind a variadic
+/// one.
 pub fn code_of(alloc: Global, s: &Signature) -> Result<Vec<u8>, AllocError>
     ensures { IfOk result (λ code. code.items ≡ signature_code s.now) }
 {

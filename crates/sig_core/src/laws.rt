@@ -1,4 +1,5 @@
-//! What holds of places and codes, over every signature and every count of extra arguments. These take no step.
+//! What holds of places and codes, over every signature and every count of extra arguments.
+//! These functions take no step.
 
 ghost use Rattle.std.specs.Prelude.{◌≡◌, ◌-◌, ◌*◌, ◌<◌, ◌≤◌, ℕ, length, nat_lt, if◌then◌else◌, slice_get, codes};
 ghost use Rattle.sig_core.specs.declared.classes.Signature.{Signature};
@@ -70,5 +71,6 @@ pub fn placement_rows()
     // `int sum(int, int, ...)` with six extra arguments.
     ensures variadic { variadic_placement counted_sum 6 ≡ counted_sum_in_ec }
     // Their codes.
-    ensures codes_by_hand { (signature_code five_words ≡ codes "m24$i8i8i8i8i8") × (signature_code counted_sum ≡ codes "i8$i8i8$varargs") }
+    ensures fixed_code { signature_code five_words ≡ codes "m24$i8i8i8i8i8" }
+    ensures variadic_code { signature_code counted_sum ≡ codes "i8$i8i8$varargs" }
 {}

@@ -6,8 +6,8 @@ ghost use Rattle.sig_core.specs.Places.{end_of, with_place};
 use hx_words::Items;
 use std::alloc::AllocError;
 
-/// The place of an argument. Registers go by their Arm64 numbers, and the stack by bytes from the address that
-/// the convention counts from.
+/// The place of an argument. Registers go by their Arm64 numbers, and the stack by bytes from the address
+/// that the convention counts from.
 #[derive(Clone, Copy, Debug, PartialEq, Eq)]
 pub enum Slot {
     /// The value, in so many registers from this one on.

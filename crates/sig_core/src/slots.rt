@@ -128,8 +128,8 @@ pub fn place_x64(alloc: Global, s: &Signature, extras: u32) -> Result<Placed, Al
     placed_in_slots(alloc, 0, &args, hidden, back)
 }
 
-/// The places of a call of a variadic Arm64EC function: the slots of an x64 call, without home space. The stack
-/// counts from the stack pointer before the call. `extras` arguments follow the fixed ones.
+/// The places of a call of a variadic Arm64EC function: the slots of an x64 call, without home space. The
+/// stack counts from the stack pointer before the call. `extras` arguments follow the fixed ones.
 pub fn place_ec_variadic(alloc: Global, s: &Signature, extras: u32) -> Result<Placed, AllocError>
     requires allowed { Allowed s.now }
     requires variadic { s.now.variadic ≡ true }
