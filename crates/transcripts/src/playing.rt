@@ -1,5 +1,7 @@
 //! Plays the cases of a file.
 
+ghost use Rattle.std.specs.Prelude.{◌≤◌, length};
+
 use crate::case::{Entry, Fails, Setup, entries};
 use crate::faults::{Bad, Fault, Why};
 use crate::judging::{Got, in_place, judge_bytes};
@@ -156,11 +158,14 @@ fn play_case<R: Files + AllocGlobal>(
 }
 
 /// How many entries come before the next case.
-fn before_case(entries: &[Entry<'_>]) -> usize {
-    entries
+fn before_case(entries: &[Entry<'_>]) -> usize
+    ensures { result ≤ length entries.now }
+{
+    let count = entries
         .iter()
         .take_while(|entry| entry.name != "case")
-        .count()
+        .count();
+    count.min(entries.len())
 }
 
 /// Prints what was played, where it is to be printed, and counts it.
@@ -187,6 +192,28 @@ fn print_front<W: Write>(entries: &[Entry<'_>], tally: &Tally, out: &mut W) -> i
     Ok(())
 }
 
+/// Plays the case that begins at an entry, if there is one, and gives where the next one begins.
+fn play_at<R: Files + AllocGlobal, W: Write>(
+    rt: &R,
+    entries: &[Entry<'_>],
+    at: usize,
+    tally: &mut Tally,
+    out: &mut W,
+) -> Result<usize, Fault> {
+    if at >= entries.len() {
+        return Ok(at);
+    }
+    let (_, left) = entries.split_at(at);
+    let Some((first, after)) = left.split_first() else {
+        return Ok(at);
+    };
+    let own = before_case(after);
+    let (case, _) = after.split_at(own);
+    let played = play_case(rt, first, case)?;
+    tell_played(&played, tally, out)?;
+    Ok(at.saturating_add(own).saturating_add(1))
+}
+
 /// Plays cases, the first of which is the first entry.
 fn play_cases<R: Files + AllocGlobal, W: Write>(
     rt: &R,
@@ -194,15 +221,9 @@ fn play_cases<R: Files + AllocGlobal, W: Write>(
     tally: &mut Tally,
     out: &mut W,
 ) -> Result<(), Fault> {
-    let mut left = entries;
+    let mut at = 0;
     for _ in 0..entries.len() {
-        let Some((first, after)) = left.split_first() else {
-            break;
-        };
-        let (own, others) = after.split_at(before_case(after));
-        let played = play_case(rt, first, own)?;
-        tell_played(&played, tally, out)?;
-        left = others;
+        at = play_at(rt, entries, at, tally, out)?;
     }
     Ok(())
 }
