@@ -114,8 +114,8 @@ fn file_of<'a, 'b>(
     Ok((name, got.store.inner().held(meant.as_str()), rest))
 }
 
-/// Writes what was got in place of an entry, if it isn't what the entry says.
-fn judge<R: Files + AllocGlobal>(
+/// Writes what is held in place of an entry of a file, if it isn't what the entry says.
+fn judge_file<R: Files + AllocGlobal>(
     rt: &R,
     entry: &Entry<'_>,
     files: &CaseFiles,
@@ -125,15 +125,6 @@ fn judge<R: Files + AllocGlobal>(
     let (name, held, rest) = file_of(rt.alloc(), entry, got)?;
     let line = entry.number;
     Ok(match entry.name {
-        "tells" => judge_told(got.status, got.notes.inner().bytes(), entry.rest, text),
-        "output" => {
-            let wanted = read_contents(rt, entry, entry.rest, files)?;
-            judge_bytes("output", got.out.inner().bytes(), wanted.as_slice(), text)
-        }
-        "left" => {
-            let wanted = read_contents(rt, entry, entry.rest, files)?;
-            judge_bytes("left", got.input.inner().rest(), wanted.as_slice(), text)
-        }
         "saved" => {
             let wanted = read_contents(rt, entry, rest, files)?;
             judge_saved(name, held, wanted.as_slice(), text)
@@ -142,9 +133,33 @@ fn judge<R: Files + AllocGlobal>(
             let wanted = number(rest).map_err(|why| why.at(line))?;
             judge_size(name, held, Some(wanted), text)
         }
-        "absent" => judge_size(name, held, None, text),
-        _ => Ok(()),
+        _ => judge_size(name, held, None, text),
     })
+}
+
+/// Writes what was got in place of an entry, if it isn't what the entry says.
+fn judge<R: Files + AllocGlobal>(
+    rt: &R,
+    entry: &Entry<'_>,
+    files: &CaseFiles,
+    got: &Got,
+    text: &mut String,
+) -> Result<Result<(), AllocError>, Bad> {
+    match entry.name {
+        "tells" => Ok(judge_told(got.status, got.notes.inner().bytes(), entry.rest, text)),
+        "output" => {
+            let wanted = read_contents(rt, entry, entry.rest, files)?;
+            let put = got.out.inner().bytes();
+            Ok(judge_bytes("output", put, wanted.as_slice(), text))
+        }
+        "left" => {
+            let wanted = read_contents(rt, entry, entry.rest, files)?;
+            let left = got.input.inner().rest();
+            Ok(judge_bytes("left", left, wanted.as_slice(), text))
+        }
+        "saved" | "sized" | "absent" => judge_file(rt, entry, files, got, text),
+        _ => Ok(Ok(())),
+    }
 }
 
 /// What was got in place of an entry, or nothing where the entry is met or expects nothing.
