@@ -85,10 +85,10 @@ on_traps None code is here cs w = goes_on_same w
 on_traps (Some true) code is here cs w = goes_on_same w
 on_traps (Some false) code is here cs w = goes_on_same w
 
-on_branches : (b : Option Bool) (yes no : ℕ) (here : Active) (cs : List Caller) (w : World) → GoesOn w (world_in (branches b yes no here cs w))
-on_branches None yes no here cs w = goes_on_same w
-on_branches (Some true) yes no here cs w = goes_on_same w
-on_branches (Some false) yes no here cs w = goes_on_same w
+on_branches : (b : Option Bool) (yes_to no_to : ℕ) (here : Active) (cs : List Caller) (w : World) → GoesOn w (world_in (branches b yes_to no_to here cs w))
+on_branches None yes_to no_to here cs w = goes_on_same w
+on_branches (Some true) yes_to no_to here cs w = goes_on_same w
+on_branches (Some false) yes_to no_to here cs w = goes_on_same w
 
 on_takes : (vs : Option (List (List Cell))) (k : ℕ) (i : IntTy) (is : List IrOp) (here : Active) (cs : List Caller) (w : World) → GoesOn w (world_in (takes vs k i is here cs w))
 on_takes None k i is here cs w = goes_on_same w
@@ -117,7 +117,7 @@ step_goes_on p (Going (NullTrap pointer ∷ is) here cs w) = on_traps _ 242 is h
 step_goes_on p (Going (ZeroTrap a i ∷ is) here cs w) = on_traps _ 243 is here cs w
 step_goes_on p (Going (Label l ∷ is) here cs w) = goes_on_same w
 step_goes_on p (Going (Jump l ∷ is) here cs w) = goes_on_same w
-step_goes_on p (Going (Branch a i yes no ∷ is) here cs w) = on_branches _ yes no here cs w
+step_goes_on p (Going (Branch a i yes_to no_to ∷ is) here cs w) = on_branches _ yes_to no_to here cs w
 step_goes_on p (Going (CallName name sig args to ∷ is) here cs w) = on_enter p name sig (map here.frame args) (Waits is here to ∷ cs) w
 step_goes_on p (Going (CallPointer at sig args to ∷ is) here cs w) = on_enter_at p (word_in (here.frame at)) sig (map here.frame args) (Waits is here to ∷ cs) w
 step_goes_on p (Going (CallService name sig args to ∷ is) here cs w) = on_serve name (map here.frame args) (Waits is here to ∷ cs) w

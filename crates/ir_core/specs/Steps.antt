@@ -43,10 +43,10 @@ traps (Some true) code is here cs w = Ended (Trapped code) w
 traps (Some false) code is here cs w = Going is here cs w
 
 -- to one label where a value is 0 or null, else to another
-abbrev pub branches : Option Bool → (yes no : ℕ) → Active → List Caller → World → Config
-branches None yes no here cs w = Wrong w
-branches (Some true) yes no here cs w = Going (at_label no here.code) here cs w
-branches (Some false) yes no here cs w = Going (at_label yes here.code) here cs w
+abbrev pub branches : Option Bool → (yes_to no_to : ℕ) → Active → List Caller → World → Config
+branches None yes_to no_to here cs w = Wrong w
+branches (Some true) yes_to no_to here cs w = Going (at_label no_to here.code) here cs w
+branches (Some false) yes_to no_to here cs w = Going (at_label yes_to here.code) here cs w
 
 -- whether an index is outside of so many elements
 abbrev pub is_outside : ℕ → ℤ → Bool
@@ -88,7 +88,7 @@ step p (Going (NullTrap pointer ∷ is) here cs w) = traps (option_and_then (wor
 step p (Going (ZeroTrap a i ∷ is) here cs w) = traps (option_map is_zero (number_in i (here.frame a))) 243 is here cs w
 step p (Going (Label l ∷ is) here cs w) = Going is here cs w
 step p (Going (Jump l ∷ is) here cs w) = Going (at_label l here.code) here cs w
-step p (Going (Branch a i yes no ∷ is) here cs w) = branches (is_zero_in w.globals i (here.frame a)) yes no here cs w
+step p (Going (Branch a i yes_to no_to ∷ is) here cs w) = branches (is_zero_in w.globals i (here.frame a)) yes_to no_to here cs w
 step p (Going (CallName name sig args to ∷ is) here cs w) = entered p name sig (map here.frame args) (Waits is here to ∷ cs) w
 step p (Going (CallPointer at sig args to ∷ is) here cs w) = entered_at p (word_in (here.frame at)) sig (map here.frame args) (Waits is here to ∷ cs) w
 step p (Going (CallService name sig args to ∷ is) here cs w) = served name (map here.frame args) (Waits is here to ∷ cs) w

@@ -22,7 +22,7 @@ are_parameters slots i (c ∷ cs) = has_class slots i c && are_parameters slots 
 abbrev pub is_ending : Option IrOp → Bool
 is_ending (Some (Return v)) = true
 is_ending (Some (Jump l)) = true
-is_ending (Some (Branch a i yes no)) = true
+is_ending (Some (Branch a i yes_to no_to)) = true
 is_ending _ = false
 
 abbrev pub last_of : List IrOp → Option IrOp

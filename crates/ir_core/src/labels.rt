@@ -1,6 +1,6 @@
 //! Whether each label stands in exactly one operation.
 
-ghost use Rattle.std.specs.Prelude.{◌≡◌, ℕ, nat_lt, if◌then◌else◌, IsTrue, ◌↔◌, OnSome, Option};
+ghost use Rattle.std.specs.Prelude.{◌≡◌, ℕ, nat_lt, if◌then◌else◌, IsTrue, ◌↔◌, IfSome};
 ghost use Rattle.std.specs.List.{count_by};
 ghost use Rattle.ir_core.specs.Steps.{is_label};
 ghost use Rattle.ir_core.specs.Valid.{StandOnce, label_of};
@@ -29,7 +29,7 @@ fn is_label(op: &IrOp, label: u32) -> bool
 
 /// How many labels there are, where they stand in order from 0 on.
 fn in_order(ops: &[IrOp]) -> Option<u64>
-    ensures { OnSome result (λ n. (l : ℕ) → count_by (is_label l) ops.now ≡ (if nat_lt l n then 1 else 0)) }
+    ensures { IfSome result (λ n. (l : ℕ) → count_by (is_label l) ops.now ≡ (if nat_lt l n then 1 else 0)) }
 {
     let mut next: u64 = 0;
     for op in ops {
