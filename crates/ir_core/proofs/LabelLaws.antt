@@ -1,9 +1,10 @@
 -- Labels in order, counted.
 use Rattle.std.proofs.Common.{◌≡◌, ℕ, ◌+◌, ◌<◌, ◌≤◌, Bool, true, false, List, length, get_or, take, refl, sym, ap, ◌∙◌, arith}
-use Rattle.std.specs.Prelude.{nat_eq, nat_lt, if◌then◌else◌, Some, None}
+use Rattle.std.specs.Prelude.{nat_eq, nat_lt, nat_le, if◌then◌else◌, Some, None, IsTrue}
 use Rattle.std.specs.List.{count_by}
 use Rattle.std.proofs.lemmas.List.Sums.{count_by_more_yes, count_by_more_no}
 use Rattle.std.proofs.lemmas.Bool.Decides.{nat_tests}
+use Rattle.std.proofs.lemmas.Bool.{leb-true, leb-false, le-leb}
 use Rattle.ir_core.specs.declared.operations.IrOp.{IrOp}
 use Rattle.ir_core.specs.declared.operations.IrOp.TheVariants.{Label}
 use Rattle.ir_core.specs.Steps.{is_label}
@@ -51,3 +52,20 @@ only ops n labels counts stand h = let e : 1 ≡ once n n = sym (stand n h) ∙ 
   where
     not_once : (x : ℕ) → once x x ≡ 0
     not_once x = grind (arith, nat_tests)
+
+-- what an operation with the next label makes of the count
+pub one_more : (ops : List IrOp) (i next label more : ℕ) (op : IrOp) → i < length ops → op ≡ get_or ops i op → Some label ≡ label_of op → label ≡ next → more ≡ next + 1 → ((x : ℕ) → count_by (is_label x) (take i ops) ≡ once x next) → (x : ℕ) → count_by (is_label x) (take (i + 1) ops) ≡ once x more
+one_more ops i next label more op h at e same up before x =
+    next_label ops i next op h (ap label_of (sym at) ∙ (sym e ∙ ap (λ n. Some n) same)) before x ∙ ap (λ n. once x n) (sym up)
+
+pub none_more : (ops : List IrOp) (i next more : ℕ) (op : IrOp) → i < length ops → op ≡ get_or ops i op → None ≡ label_of op → more ≡ next → ((x : ℕ) → count_by (is_label x) (take i ops) ≡ once x next) → (x : ℕ) → count_by (is_label x) (take (i + 1) ops) ≡ once x more
+none_more ops i next more op h at e up before x =
+    no_label ops i next op h (ap label_of (sym at) ∙ sym e) before x ∙ ap (λ n. once x n) (sym up)
+
+-- so their number tells
+pub number_tells : (ops : List IrOp) (n labels : ℕ) → ((x : ℕ) → count_by (is_label x) ops ≡ once x n) → (IsTrue (nat_le labels n) → StandOnce labels ops) × (StandOnce labels ops → IsTrue (nat_le labels n))
+number_tells ops n labels counts = pick (nat_le labels n) refl
+  where
+    pick : (b : Bool) → nat_le labels n ≡ b → (IsTrue b → StandOnce labels ops) × (StandOnce labels ops → IsTrue b)
+    pick true e = (λ h. enough ops n labels counts (leb-true labels n e), λ h. refl)
+    pick false e = (λ h. cc, λ h. absurd (only ops n labels counts h (leb-false labels n e)))

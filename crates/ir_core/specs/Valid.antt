@@ -49,3 +49,7 @@ pub record IsValid (f : IrFn) : Type 0 where
   -- the last operation is a Return, a Jump or a Branch
   pub ending : IsTrue (is_ending (last_of f.ops))
   pub labels : StandOnce f.labels f.ops
+
+-- all of it but the labels, as a test
+abbrev pub is_shaped : IrFn → Bool
+is_shaped f = is_signature f.sig && (list_all is_slot f.slots && (are_parameters f.slots 0 f.sig.args && (list_all (fits f) f.ops && is_ending (last_of f.ops))))

@@ -127,15 +127,21 @@ fn has_count(s: &Signature, args: usize) -> bool
     }
 }
 
+/// Whether the slot holds the argument of this place: of its class, or an extra one.
+fn is_passed(slots: &[IrSlot], classes: &[Class], place: usize, slot: u32) -> bool
+    ensures { result ≡ is_passed slots.now (slice_get classes.now place) slot }
+{
+    match classes.get(place) {
+        None => has_bytes(slots, slot, 8),
+        Some(class) => has_class(slots, slot as usize, *class),
+    }
+}
+
 fn are_passed(slots: &[IrSlot], classes: &[Class], args: &[u32]) -> bool
     ensures { result ≡ are_passed slots.now classes.now 0 args.now }
 {
     for (i, slot) in args.iter().enumerate() {
-        let fits = match classes.get(i) {
-            None => has_bytes(slots, *slot, 8),
-            Some(class) => has_class(slots, *slot as usize, *class),
-        };
-        if !fits {
+        if !is_passed(slots, classes, i, *slot) {
             return false;
         }
     }

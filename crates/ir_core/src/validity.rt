@@ -1,9 +1,9 @@
 //! The functions that generators take.
 
-ghost use Rattle.std.specs.Prelude.{◌≡◌, ◌↔◌, IsTrue};
+ghost use Rattle.std.specs.Prelude.{◌≡◌, ◌&&◌, ◌↔◌, IsTrue};
 ghost use Rattle.std.specs.List.{list_all};
 ghost use Rattle.ir_core.specs.Operands.{fits};
-ghost use Rattle.ir_core.specs.Valid.{is_slot, are_parameters, is_ending, last_of, IsValid};
+ghost use Rattle.ir_core.specs.Valid.{is_slot, are_parameters, is_ending, last_of, is_shaped, IsValid};
 
 use crate::labels::stand_once;
 use crate::operands::{fits, has_class};
@@ -66,16 +66,22 @@ fn is_ended(ops: &[IrOp]) -> bool
     ends(&ops[ops.len() - 1])
 }
 
+/// Whether all but the labels is as [`valid`] says.
+fn is_shaped(f: &IrFn) -> bool
+    ensures { result ≡ is_shaped f.now }
+{
+    let slots = f.slots.as_slice();
+    is_signature(&f.sig)
+        && (are_slots(slots)
+            && (are_parameters(slots, f.sig.args.as_slice())
+                && (all_fit(f) && is_ended(f.ops.as_slice()))))
+}
+
 /// Whether each operand, label and slot of a function is of its kind and in range, each label below `labels` stands
 /// in exactly one operation, and the last operation goes elsewhere. Takes no memory, and a time linear in the
 /// function where its labels stand in order.
 pub fn valid(f: &IrFn) -> bool
     ensures { IsTrue result ↔ IsValid f.now }
 {
-    is_signature(&f.sig)
-        && are_slots(f.slots.as_slice())
-        && are_parameters(f.slots.as_slice(), f.sig.args.as_slice())
-        && all_fit(f)
-        && is_ended(f.ops.as_slice())
-        && stand_once(f.ops.as_slice(), f.labels)
+    is_shaped(f) && stand_once(f.ops.as_slice(), f.labels)
 }
