@@ -1,0 +1,4 @@
+pub mod Growth
+pub mod Runs
+pub mod LabelLaws
+pub mod ValidLaws

@@ -1,0 +1,13 @@
+pub mod Integers
+pub mod Cells
+pub mod Worlds
+pub mod Access
+pub mod Calls
+pub mod Steps
+pub mod Accounts
+pub mod Start
+pub mod Laws
+pub mod Worked
+pub mod Operands
+pub mod Valid
+pub mod Within
