@@ -1,15 +1,15 @@
 -- What was seen is seen for good.
-use Rattle.std.proofs.Common.{◌≡◌, ℕ, zero, suc, Bool, true, false, List, [], ◌∷◌, ◌++◌, refl, sym, ap, ◌∙◌, append_assoc, append-nil}
-use Rattle.std.specs.Prelude.{if◌then◌else◌, map, Option, Some, None, pos}
+use Rattle.std.proofs.Common.{ℕ, zero, suc, Bool, true, false, List, [], ◌∷◌, ◌++◌, refl, sym, ap, ◌∙◌, append_assoc, append-nil}
+use Rattle.std.specs.Prelude.{if◌then◌else◌, map, Option, Some, None}
 use Rattle.c_types.specs.declared.types.IntTy.{IntTy}
 use Rattle.sig_core.specs.declared.classes.Signature.{Signature}
 use Rattle.ir_core.specs.declared.operations.IrOp.{IrOp}
 use Rattle.ir_core.specs.declared.operations.IrOp.TheVariants.{Const, Copy, Zero, Unary, Binary, Convert, GlobalAddress, FunctionAddress, LoadAt, StoreAt, BoundsTrap, NullTrap, ZeroTrap, Label, Jump, Branch, CallName, CallPointer, CallService, VaStart, VaArg, VaEnd, Return}
 use Rattle.ir_core.specs.declared.program.IrAdjust.{IrAdjust}
-use Rattle.ir_core.specs.Cells.{Cell, Symbol, Inside, Function, Word, Number, Address, word_in}
+use Rattle.ir_core.specs.Cells.{Cell, Inside, Function, Word, Number, Address, word_in}
 use Rattle.ir_core.specs.Worlds.{Frame, Globals, Def, Body, Adjusts, Codes, Event, Calls, Serves, Reply, Gives, Changes, Ends, World, Active, Caller, Waits, Passes, Config, Going, Passing, Ended, Wrong, shown, same_signature}
-use Rattle.ir_core.specs.Calls.{active_of, returned, with_replies, replied, if_same, entered_as, entered, entered_at, served, with_added, passed_on, adjusted}
-use Rattle.ir_core.specs.Steps.{at_label, sets, reframes, stores, traps, branches, takes, value_of, step, steps}
+use Rattle.ir_core.specs.Calls.{active_of, returned, with_replies, replied, entered_as, entered, entered_at, served, with_added, passed_on, adjusted}
+use Rattle.ir_core.specs.Steps.{sets, reframes, stores, traps, branches, takes, value_of, step, steps}
 use Rattle.ir_core.specs.Laws.{world_in, GoesOn}
 
 pub goes_on_same : (w : World) → GoesOn w w

@@ -4,7 +4,7 @@ use Rattle.std.specs.Prelude.{nat_eq, nat_lt, nat_le, if◌then◌else◌, Some,
 use Rattle.std.specs.List.{count_by}
 use Rattle.std.proofs.lemmas.List.Sums.{count_by_more_yes, count_by_more_no}
 use Rattle.std.proofs.lemmas.Bool.Decides.{nat_tests}
-use Rattle.std.proofs.lemmas.Bool.{leb-true, leb-false, le-leb}
+use Rattle.std.proofs.lemmas.Bool.{leb-true, leb-false}
 use Rattle.ir_core.specs.declared.operations.IrOp.{IrOp}
 use Rattle.ir_core.specs.declared.operations.IrOp.TheVariants.{Label}
 use Rattle.ir_core.specs.Steps.{is_label}

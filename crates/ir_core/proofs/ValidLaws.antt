@@ -1,16 +1,16 @@
 -- All but the labels, and the labels.
-use Rattle.std.proofs.Common.{◌≡◌, Bool, true, false, refl, sym, ◌∙◌}
+use Rattle.std.proofs.Common.{◌≡◌, Bool, true, false, refl, sym}
 use Rattle.std.specs.Prelude.{◌&&◌, IsTrue}
 use Rattle.std.specs.List.{list_all}
 use Rattle.ir_core.specs.declared.program.IrFn.{IrFn}
 use Rattle.ir_core.specs.Operands.{is_signature, fits}
 use Rattle.ir_core.specs.Valid.{is_slot, are_parameters, is_ending, last_of, StandOnce, is_shaped, IsValid}
 
-first_of : (a b : Bool) → IsTrue (a && b) → IsTrue a
+pub first_of : (a b : Bool) → IsTrue (a && b) → IsTrue a
 first_of true b h = refl
 first_of false b h = cc
 
-second_of : (a b : Bool) → IsTrue (a && b) → IsTrue b
+pub second_of : (a b : Bool) → IsTrue (a && b) → IsTrue b
 second_of true b h = h
 second_of false b h = cc
 
@@ -49,6 +49,3 @@ valid_is_shaped f v =
 -- the shape is as it should be, so the labels tell
 pub labels_tell : (f : IrFn) (b : Bool) → true ≡ is_shaped f → (IsTrue b → StandOnce f.labels f.ops) × (StandOnce f.labels f.ops → IsTrue b) → (IsTrue b → IsValid f) × (IsValid f → IsTrue b)
 labels_tell f b e tells = (λ h. shaped_is_valid f (sym e) (tells.0 h), λ v. tells.1 v.labels)
-
-pub not_shaped : (f : IrFn) → false ≡ is_shaped f → IsValid f → ⊥
-not_shaped f e v = let h : false ≡ true = e ∙ valid_is_shaped f v in cc

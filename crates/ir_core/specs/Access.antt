@@ -1,5 +1,5 @@
 -- Reading and writing of slots and globals, and values that may be addresses.
-use Rattle.std.specs.Prelude.{ℕ, zero, suc, ◌+◌, ◌%◌, ◌^◌, Bool, true, false, not, ◌&&◌, nat_eq, nat_lt, if◌then◌else◌, List, length, Option, Some, None, ℤ, pos}
+use Rattle.std.specs.Prelude.{ℕ, zero, suc, ◌+◌, ◌%◌, ◌^◌, Bool, true, false, not, ◌&&◌, nat_eq, nat_lt, if◌then◌else◌, List, length, Option, Some, None}
 use Rattle.std.specs.Option.{option_map, option_and_then}
 use Rattle.std.specs.Str.{bytes_eq}
 use Rattle.c_types.specs.declared.types.IntTy.{IntTy}
@@ -11,7 +11,7 @@ use Rattle.ir_core.specs.declared.operations.IrBinary.{IrBinary}
 use Rattle.ir_core.specs.declared.operations.IrBinary.TheVariants as by
 use Rattle.ir_core.specs.Integers.{truth, is_zero, unary_worked, worked, unary_type, result_type}
 use Rattle.ir_core.specs.Cells.{Cell, Root, Global, Symbol, Inside, Function, Word, Number, Address, same_root, number_cells, word_cells, number_in, word_in, cells_from, with_cells}
-use Rattle.ir_core.specs.Worlds.{Frame, Globals, World, with_slot, with_global}
+use Rattle.ir_core.specs.Worlds.{Frame, Globals, with_slot, with_global}
 
 -- ---- places
 

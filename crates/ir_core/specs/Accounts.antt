@@ -6,7 +6,7 @@ use Rattle.sig_core.specs.declared.classes.Class.{Class}
 use Rattle.sig_core.specs.declared.classes.Class.TheVariants as class
 use Rattle.sig_core.specs.declared.classes.Signature.{Signature}
 use Rattle.ir_core.specs.declared.operations.IrOp.{IrOp}
-use Rattle.ir_core.specs.declared.operations.IrOp.TheVariants.{Const, Copy, Zero, Unary, Binary, Convert, GlobalAddress, FunctionAddress, LoadAt, StoreAt, BoundsTrap, NullTrap, ZeroTrap, Label, Jump, Branch, CallName, CallPointer, CallService, VaStart, VaArg, VaEnd, Return}
+use Rattle.ir_core.specs.declared.operations.IrOp.TheVariants.{Copy, Zero, LoadAt, StoreAt, Label, CallName, CallPointer, CallService, VaArg, Return}
 use Rattle.ir_core.specs.Worlds.{Active, Codes, Config, Going, Passing, Ended, Wrong}
 use Rattle.ir_core.specs.Steps.{step, value_of}
 

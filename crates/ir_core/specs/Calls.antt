@@ -1,16 +1,15 @@
 -- Entering and leaving functions, adjustors, services, and what isn't here.
-use Rattle.std.specs.Prelude.{ℕ, ◌+◌, ◌*◌, Bool, nat_lt, if◌then◌else◌, List, [], ◌∷◌, ◌++◌, map, length, take, drop, slice_get, Option, Some, None, ℤ, pos, ◌+ℤ◌}
+use Rattle.std.specs.Prelude.{ℕ, ◌+◌, ◌*◌, if◌then◌else◌, List, [], ◌∷◌, ◌++◌, length, take, drop, slice_get, Option, Some, None, ℤ, pos, ◌+ℤ◌}
 use Rattle.std.specs.List.{slice_index_or}
 use Rattle.std.specs.Option.{option_map, option_and_then}
 use Rattle.hx_words.specs.LittleEndian.{number_of, bytes_of}
 use Rattle.sig_core.specs.declared.classes.Signature.{Signature}
-use Rattle.ir_core.specs.declared.operations.IrOp.{IrOp}
 use Rattle.ir_core.specs.declared.program.IrSlot.{IrSlot}
 use Rattle.ir_core.specs.declared.program.IrFn.{IrFn}
 use Rattle.ir_core.specs.declared.program.IrAdjust.{IrAdjust}
 use Rattle.ir_core.specs.Integers.{low_bits}
-use Rattle.ir_core.specs.Cells.{Cell, Symbol, Inside, Function, Word, Number, Address, byte_cells, plain, word_in, fitted}
-use Rattle.ir_core.specs.Worlds.{Frame, Globals, Def, Body, Adjusts, Codes, Event, Calls, Serves, Reply, Gives, Changes, Ends, World, Active, Caller, Waits, Passes, End, Gave, Exited, Asks, Config, Going, Passing, Ended, Wrong, with_slot, in_frame, shown, same_signature}
+use Rattle.ir_core.specs.Cells.{Cell, Inside, Function, Word, Number, Address, byte_cells, plain, fitted}
+use Rattle.ir_core.specs.Worlds.{Frame, Def, Body, Adjusts, Codes, Calls, Serves, Reply, Gives, Changes, Ends, World, Active, Caller, Waits, Passes, Gave, Exited, Asks, Config, Going, Passing, Ended, Wrong, with_slot, in_frame, shown, same_signature}
 
 -- ---- entering
 

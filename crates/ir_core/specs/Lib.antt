@@ -8,6 +8,7 @@ pub mod Accounts
 pub mod Start
 pub mod Laws
 pub mod Worked
+pub mod MoreRows
 pub mod Operands
 pub mod Valid
 pub mod Within

@@ -1,17 +1,15 @@
 -- A program's names, what its globals hold at first, and the configuration in which a function begins.
-use Rattle.std.specs.Prelude.{ℕ, ◌+◌, ◌-◌, Bool, true, false, nat_eq, if◌then◌else◌, is_some, List, [], ◌∷◌, ◌++◌, length, take, drop, replicate, Option, Some, None}
+use Rattle.std.specs.Prelude.{ℕ, ◌-◌, Bool, true, false, nat_eq, if◌then◌else◌, is_some, List, [], ◌∷◌, ◌++◌, length, take, drop, replicate, Option, Some, None}
 use Rattle.std.specs.List.{find, fold}
 use Rattle.std.specs.Option.{option_map, option_or}
 use Rattle.std.specs.Str.{bytes_eq}
 use Rattle.hx_words.specs.LittleEndian.{number_of}
 use Rattle.sig_core.specs.declared.classes.Signature.{Signature}
-use Rattle.ir_core.specs.declared.program.IrFn.{IrFn}
-use Rattle.ir_core.specs.declared.program.IrAdjust.{IrAdjust}
 use Rattle.ir_core.specs.declared.program.IrAddress.{IrAddress}
 use Rattle.ir_core.specs.declared.program.IrGlobal.{IrGlobal}
 use Rattle.ir_core.specs.declared.program.IrProgram.{IrProgram}
-use Rattle.ir_core.specs.Cells.{Cell, Byte, Blank, Global, Symbol, Inside, Function, byte_cells, blanks, plain, symbol_cells, with_cells}
-use Rattle.ir_core.specs.Worlds.{Globals, Def, Body, Adjusts, Codes, Reply, World, Config}
+use Rattle.ir_core.specs.Cells.{Cell, Byte, Global, Inside, Function, byte_cells, blanks, plain, symbol_cells, with_cells}
+use Rattle.ir_core.specs.Worlds.{Globals, Body, Adjusts, Codes, Reply, World, Config}
 use Rattle.ir_core.specs.Calls.{entered}
 
 -- the function of a name, or else the adjustor

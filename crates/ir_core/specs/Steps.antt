@@ -1,14 +1,13 @@
 -- The operations, one step at a time.
-use Rattle.std.specs.Prelude.{ℕ, zero, suc, ◌+◌, Bool, true, false, nat_eq, ◌&&◌, if◌then◌else◌, List, [], ◌∷◌, map, Option, Some, None, ℤ, pos, int_le, int_lt}
+use Rattle.std.specs.Prelude.{ℕ, zero, suc, Bool, true, false, nat_eq, ◌&&◌, if◌then◌else◌, List, [], ◌∷◌, map, Option, Some, None, ℤ, pos, int_le, int_lt}
 use Rattle.std.specs.Option.{option_map, option_and_then}
 use Rattle.std.proofs.Math.ListN.{replicate}
 use Rattle.c_types.specs.declared.types.IntTy.{IntTy}
-use Rattle.c_types.specs.declared.types.IntTy.TheVariants.{U64}
 use Rattle.ir_core.specs.declared.operations.IrOp.{IrOp}
 use Rattle.ir_core.specs.declared.operations.IrOp.TheVariants.{Const, Copy, Zero, Unary, Binary, Convert, GlobalAddress, FunctionAddress, LoadAt, StoreAt, BoundsTrap, NullTrap, ZeroTrap, Label, Jump, Branch, CallName, CallPointer, CallService, VaStart, VaArg, VaEnd, Return}
 use Rattle.ir_core.specs.Integers.{bytes_in, is_zero}
-use Rattle.ir_core.specs.Cells.{Cell, Byte, Global, Symbol, Inside, Function, number_cells, symbol_cells, number_in, word_in, fitted}
-use Rattle.ir_core.specs.Worlds.{Frame, Globals, Codes, World, Active, Caller, Waits, End, Trapped, Config, Going, Passing, Ended, Wrong, with_slot, in_frame}
+use Rattle.ir_core.specs.Cells.{Cell, Byte, Global, Inside, Function, number_cells, symbol_cells, number_in, word_in, fitted}
+use Rattle.ir_core.specs.Worlds.{Frame, Globals, Codes, World, Active, Caller, Waits, Trapped, Config, Going, Passing, Ended, Wrong, with_slot, in_frame}
 use Rattle.ir_core.specs.Access.{from_place, to_place, from_address, to_address, word_is_zero, is_zero_in, unary_of, binary_of, converted}
 use Rattle.ir_core.specs.Calls.{returned, entered, entered_at, served, adjusted}
 

@@ -1,5 +1,5 @@
 -- Two programs whose runs were worked out by hand.
-use Rattle.std.specs.Prelude.{ℕ, true, false, List, [], ◌∷◌, ◌++◌, map, Some, None, pos, negsuc, codes}
+use Rattle.std.specs.Prelude.{ℕ, false, List, [], ◌∷◌, Some, None, negsuc, codes}
 use Rattle.c_types.specs.declared.types.IntTy.TheVariants.{I32}
 use Rattle.sig_core.specs.declared.classes.Class.{Class}
 use Rattle.sig_core.specs.declared.classes.Class.TheVariants as class
@@ -13,7 +13,7 @@ use Rattle.ir_core.specs.declared.program.IrFn.{IrFn}
 use Rattle.ir_core.specs.declared.program.IrAdjust.{IrAdjust}
 use Rattle.ir_core.specs.declared.program.IrProgram.{IrProgram}
 use Rattle.ir_core.specs.Cells.{Cell, byte_cells}
-use Rattle.ir_core.specs.Worlds.{Event, Calls, Serves, Reply, Gives, World, Gave, Config, Ended}
+use Rattle.ir_core.specs.Worlds.{Event, Calls, Serves, Gives, Gave, Config, Ended}
 use Rattle.ir_core.specs.Start.{first_globals, started}
 
 abbrev pub fixed : Class → List Class → Signature

@@ -1,5 +1,5 @@
 -- The configurations that a run of operations goes through.
-use Rattle.std.specs.Prelude.{◌≡◌, ℕ, Bool, if◌then◌else◌, nat_eq, ◌&&◌, ◌==◌, true, false, List, [], ◌∷◌, ◌++◌, Option, Some, None}
+use Rattle.std.specs.Prelude.{ℕ, Bool, if◌then◌else◌, nat_eq, ◌&&◌, ◌==◌, true, false, List, [], ◌∷◌, ◌++◌, Option}
 use Rattle.std.specs.Str.{bytes_eq}
 use Rattle.sig_core.specs.declared.classes.Class.{Class}
 use Rattle.sig_core.specs.declared.classes.Class.TheVariants as class

@@ -12,6 +12,8 @@ pub mod laws;
 mod operands;
 mod operations;
 mod program;
+#[cfg(test)]
+mod rows;
 mod signatures;
 mod validity;
 mod work;

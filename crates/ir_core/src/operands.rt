@@ -181,7 +181,8 @@ pub fn fits(f: &IrFn, op: &IrOp) -> bool
     let slots = f.slots.as_slice();
     match op {
         IrOp::Const { to, ty, value: _ } => holds(slots, *to, *ty),
-        IrOp::Copy { to, from, size } => is_place(slots, *to, *size) && is_place(slots, *from, *size),
+        IrOp::Copy { to, from, size } => is_place(slots, *to, *size)
+            && is_place(slots, *from, *size),
         IrOp::Zero { to, size } => is_place(slots, *to, *size),
         IrOp::Unary { op, ty, to, a } => {
             holds(slots, *to, unary_type(*op, *ty)) && holds(slots, *a, *ty)
@@ -190,9 +191,12 @@ pub fn fits(f: &IrFn, op: &IrOp) -> bool
             holds(slots, *to, result_type(*op, *ty))
                 && (holds(slots, *a, *ty) && holds(slots, *b, *ty))
         }
-        IrOp::Convert { from_ty, to_ty, to, a } => {
-            holds(slots, *to, *to_ty) && holds(slots, *a, *from_ty)
-        }
+        IrOp::Convert {
+            from_ty,
+            to_ty,
+            to,
+            a,
+        } => { holds(slots, *to, *to_ty) && holds(slots, *a, *from_ty) }
         IrOp::GlobalAddress { to, name: _ } | IrOp::FunctionAddress { to, name: _ } => {
             has_bytes(slots, *to, 8)
         }
@@ -202,22 +206,35 @@ pub fn fits(f: &IrFn, op: &IrOp) -> bool
         IrOp::StoreAt { to, from, size } => {
             is_pointer(slots, *to, *size) && is_place(slots, *from, *size)
         }
-        IrOp::BoundsTrap { index, ty, length: _ } => holds(slots, *index, *ty),
+        IrOp::BoundsTrap {
+            index,
+            ty,
+            length: _,
+        } => holds(slots, *index, *ty),
         IrOp::NullTrap { pointer } => has_bytes(slots, *pointer, 8),
         IrOp::ZeroTrap { a, ty } => holds(slots, *a, *ty),
         IrOp::Label { label } | IrOp::Jump { label } => *label < f.labels,
         IrOp::Branch { a, ty, yes, no } => {
             holds(slots, *a, *ty) && (*yes < f.labels && *no < f.labels)
         }
-        IrOp::CallName { name: _, sig, args, result } => {
-            is_call(slots, sig, args.as_slice(), *result)
-        }
-        IrOp::CallPointer { pointer, sig, args, result } => {
-            has_bytes(slots, *pointer, 8) && is_call(slots, sig, args.as_slice(), *result)
-        }
-        IrOp::CallService { name: _, sig, args, result } => {
-            is_call(slots, sig, args.as_slice(), *result)
-        }
+        IrOp::CallName {
+            name: _,
+            sig,
+            args,
+            result,
+        } => { is_call(slots, sig, args.as_slice(), *result) }
+        IrOp::CallPointer {
+            pointer,
+            sig,
+            args,
+            result,
+        } => { has_bytes(slots, *pointer, 8) && is_call(slots, sig, args.as_slice(), *result) }
+        IrOp::CallService {
+            name: _,
+            sig,
+            args,
+            result,
+        } => { is_call(slots, sig, args.as_slice(), *result) }
         IrOp::VaStart | IrOp::VaEnd => f.sig.variadic,
         IrOp::VaArg { to, ty } => f.sig.variadic && holds(slots, *to, *ty),
         IrOp::Return { value } => is_given(slots, f.sig.result, *value),

@@ -51,7 +51,12 @@ fn ends(op: &IrOp) -> bool
 {
     match op {
         IrOp::Return { value: _ } | IrOp::Jump { label: _ } => true,
-        IrOp::Branch { a: _, ty: _, yes: _, no: _ } => true,
+        IrOp::Branch {
+            a: _,
+            ty: _,
+            yes: _,
+            no: _,
+        } => true,
         _ => false,
     }
 }

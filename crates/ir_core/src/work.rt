@@ -12,9 +12,24 @@ fn call_args(op: &IrOp) -> u64
     ensures { result ≡ call_args op.now }
 {
     match op {
-        IrOp::CallName { name: _, sig: _, args, result: _ }
-        | IrOp::CallPointer { pointer: _, sig: _, args, result: _ }
-        | IrOp::CallService { name: _, sig: _, args, result: _ } => args.len() as u64,
+        IrOp::CallName {
+            name: _,
+            sig: _,
+            args,
+            result: _,
+        }
+        | IrOp::CallPointer {
+            pointer: _,
+            sig: _,
+            args,
+            result: _,
+        }
+        | IrOp::CallService {
+            name: _,
+            sig: _,
+            args,
+            result: _,
+        } => args.len() as u64,
         _ => 0,
     }
 }
@@ -68,18 +83,33 @@ fn all_aggregates(classes: &[Class]) -> u64
 fn need_of(args: usize, classes: &[Class]) -> u64
     ensures { result ≡ small (24 * args + sum_by aggregate_bytes classes.now) }
 {
-    (args as u64).saturating_mul(24).saturating_add(all_aggregates(classes))
+    (args as u64)
+        .saturating_mul(24)
+        .saturating_add(all_aggregates(classes))
 }
 
 fn call_need(op: &IrOp) -> u64
     ensures { result ≡ small (call_need op.now) }
 {
     match op {
-        IrOp::CallName { name: _, sig, args, result: _ }
-        | IrOp::CallPointer { pointer: _, sig, args, result: _ }
-        | IrOp::CallService { name: _, sig, args, result: _ } => {
-            need_of(args.len(), sig.args.as_slice())
+        IrOp::CallName {
+            name: _,
+            sig,
+            args,
+            result: _,
         }
+        | IrOp::CallPointer {
+            pointer: _,
+            sig,
+            args,
+            result: _,
+        }
+        | IrOp::CallService {
+            name: _,
+            sig,
+            args,
+            result: _,
+        } => { need_of(args.len(), sig.args.as_slice()) }
         _ => 0,
     }
 }

@@ -7,11 +7,11 @@ pub loop-op-preserved : goal.loop-op-preserved
 loop-op-preserved c =
     let few = c.loop-op.invariant.few in
     elim c.match-label_of.branch [
-      in-Some+else-from-next w ↦ record {
+      | in-Some+else-from-next w ↦ record {
         counts = one_more c.args.ops.now c.loop-op.op-index c.loop-op.next w.in-Some.label c.match-label_of.next c.op-item.result c.loop-op-test.true c.op-item.is (sym w.in-Some.is ∙ c.label_of.ensures) (sym w.from.ensures ∙ w.if-from-next.false) w.next-is c.loop-op.invariant.counts;
         few = omega (arith, few, w.next-is);
       }
-    | in_default w ↦ record {
+      | in_default w ↦ record {
         counts = none_more c.args.ops.now c.loop-op.op-index c.loop-op.next c.match-label_of.next c.op-item.result c.loop-op-test.true c.op-item.is (sym w.in_default.is ∙ c.label_of.ensures) w.next-is c.loop-op.invariant.counts;
         few = omega (arith, few, w.next-is);
       }

@@ -1,4 +1,4 @@
-use Rattle.std.proofs.Common.{◌≡◌, ℕ, sym, subst}
+use Rattle.std.proofs.Common.{ℕ, sym, subst}
 use Rattle.std.specs.Prelude.{nat_le, IsTrue}
 use Rattle.ir_core.specs.Valid.{StandOnce}
 use Rattle.ir_core.proofs.LabelLaws.{number_tells}

@@ -22,4 +22,3 @@ returns-clause-works c = refl
 pub returns-clause-crossings : goal.returns-clause-crossings
 unfolding number_of bytes_of low_bits wrapped number_in word_in cells_from with_cells fitted with_slot same_signature from_place to_place word_is_zero same_word sum_of_words is_zero_in binary_of frame_of replied entered served adjusted
 returns-clause-crossings c = refl
-
